@@ -1,0 +1,4 @@
+pub mod Every
+pub mod Places
+pub mod Tabs
+pub mod Walks

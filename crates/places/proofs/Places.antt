@@ -1,0 +1,114 @@
+-- The laws of places, lanes, rows and sources, each once, over the element size. A law of all 1,024 places is a test that is computed
+-- at each of them.
+-- Assumes nothing.
+use mathlib.Core.Path.{_≡_, refl, sym, ap, _∙_, subst, subst₂, subst⁻¹}
+use mathlib.Core.Logic.{⊎-elim, inl, inr}
+use Prim.Native.Nat.{ℕ, _+_, _*_, _/_, _%_, _<_}
+use lib.Arith.{digits-lt, digits-div, digits-mod}
+use Rattle.places.specs.Sizes.{t8, t16, t32, t64, Size, lanes}
+use Rattle.places.specs.Places.{order, place, lane, row, source, target}
+use Rattle.places.proofs.Every.{Same, Below, same, below}
+
+-- what holds at each of the four sizes holds at a size
+pub each : (P : ℕ → Type 0) → P t8 → P t16 → P t32 → P t64 → {t : ℕ} → Size t → P t
+each P a b c d s =
+    ⊎-elim (λ e. subst⁻¹ P e a)
+    (⊎-elim (λ e. subst⁻¹ P e b) (⊎-elim (λ e. subst⁻¹ P e c) (λ e. subst⁻¹ P e d))) s
+
+pub size8 : Size t8
+size8 = inl refl
+
+pub size16 : Size t16
+size16 = inr (inl refl)
+
+pub size32 : Size t32
+size32 = inr (inr (inl refl))
+
+pub size64 : Size t64
+size64 = inr (inr (inr refl))
+
+-- a block has t rows of LANES values
+pub size-lanes : {t : ℕ} → Size t → t * lanes t ≡ 1024
+size-lanes s = each (λ t. t * lanes t ≡ 1024) refl refl refl refl s
+
+-- the order list, applied twice, gives its argument back
+pub order-order : (n : ℕ) → n < 8 → order (order n) ≡ n
+unfolding order
+order-order = same 8 (λ n. order (order n)) (λ n. n) tt
+
+-- lane and row of a place are in range, and the place formula takes them back to it
+
+module _ {t : ℕ} (s : Size t) (p : ℕ) (h : p < 1024) where
+  pub place-row-lane : place (row t p) (lane t p) ≡ p
+  unfolding order place lane row
+  place-row-lane =
+      same 1024 (λ p. place (row t p) (lane t p)) (λ p. p)
+      (each (λ t. Same 1024 (λ p. place (row t p) (lane t p)) (λ p. p)) tt tt tt tt s) p h
+
+  pub lane-lt : lane t p < lanes t
+  unfolding lane
+  lane-lt = below 1024 (lane t) (λ _. lanes t) (each (λ t. Below 1024 (lane t) (λ _. lanes t)) tt tt tt tt s) p h
+
+  pub row-lt : row t p < t
+  unfolding order lane row
+  row-lt = below 1024 (row t) (λ _. t) (each (λ t. Below 1024 (row t) (λ _. t)) tt tt tt tt s) p h
+
+-- every place is below 1,024, and the lane and the row of place r l are l and r
+
+module _ {t : ℕ} (s : Size t) (r l : ℕ) (hr : r < t) (hl : l < lanes t) where
+  -- what the tests below say of number k, said of the row and the lane that k stands for
+  of-grid : (P : ℕ → ℕ → Type 0) → ((k : ℕ) → k < 1024 → P (k / lanes t) (k % lanes t)) → P r l
+  of-grid P f =
+      subst₂ P (digits-div r hl) (digits-mod r hl)
+      (f (r * lanes t + l) (subst (λ n. r * lanes t + l < n) (size-lanes s) (digits-lt hr hl)))
+
+  pub lane-place : lane t (place r l) ≡ l
+  unfolding order place lane
+  lane-place =
+      of-grid (λ r l. lane t (place r l) ≡ l)
+      (same 1024 (λ k. lane t (place (k / lanes t) (k % lanes t))) (λ k. k % lanes t)
+      (each (λ t. Same 1024 (λ k. lane t (place (k / lanes t) (k % lanes t))) (λ k. k % lanes t)) tt tt tt tt s))
+
+  pub row-place : row t (place r l) ≡ r
+  unfolding order place lane row
+  row-place =
+      of-grid (λ r l. row t (place r l) ≡ r)
+      (same 1024 (λ k. row t (place (k / lanes t) (k % lanes t))) (λ k. k / lanes t)
+      (each (λ t. Same 1024 (λ k. row t (place (k / lanes t) (k % lanes t))) (λ k. k / lanes t)) tt tt tt tt s))
+
+  pub place-lt : place r l < 1024
+  unfolding order place
+  place-lt =
+      of-grid (λ r l. place r l < 1024)
+      (below 1024 (λ k. place (k / lanes t) (k % lanes t)) (λ _. 1024)
+      (each (λ t. Below 1024 (λ k. place (k / lanes t) (k % lanes t)) (λ _. 1024)) tt tt tt tt s))
+
+-- so each place has exactly one lane and one row
+pub one-place : {t : ℕ} → Size t → (r l r′ l′ : ℕ) → r < t → l < lanes t → r′ < t → l′ < lanes t
+    → place r l ≡ place r′ l′ → (r ≡ r′) × (l ≡ l′)
+one-place {t} s r l r′ l′ hr hl hr′ hl′ e = (
+  sym (row-place s r l hr hl) ∙ ap (row t) e ∙ row-place s r′ l′ hr′ hl′,
+  sym (lane-place s r l hr hl) ∙ ap (lane t) e ∙ lane-place s r′ l′ hr′ hl′,
+)
+
+-- source and target are permutations of 0 to 1023, each the other's inverse
+
+pub target-source : (i : ℕ) → i < 1024 → target (source i) ≡ i
+unfolding order source target
+target-source = same 1024 (λ i. target (source i)) (λ i. i) tt
+
+pub source-target : (j : ℕ) → j < 1024 → source (target j) ≡ j
+unfolding order source target
+source-target = same 1024 (λ j. source (target j)) (λ j. j) tt
+
+pub source-lt : (i : ℕ) → i < 1024 → source i < 1024
+unfolding order source
+source-lt = below 1024 source (λ _. 1024) tt
+
+pub target-lt : (j : ℕ) → j < 1024 → target j < 1024
+unfolding order target
+target-lt = below 1024 target (λ _. 1024) tt
+
+-- no two places have one source
+pub one-source : (i k : ℕ) → i < 1024 → k < 1024 → source i ≡ source k → i ≡ k
+one-source i k hi hk e = sym (target-source i hi) ∙ ap target e ∙ target-source k hk

@@ -1,0 +1,144 @@
+-- The laws of tab, and the one law behind every loop that rewrites a list front to back.
+-- Assumes nothing.
+use mathlib.Core.Path.{_≡_, refl, sym, ap, _∙_}
+use mathlib.Core.List.{List, [], _∷_, _++_, append-nil, append-assoc}
+use Prim.Native.Nat.{ℕ, zero, suc, _+_, _-_, _*_, _≤_, _<_}
+use native.Mathlib.Nat.{mul-le-mul-right, suc-mul, add-assoc, add-zero, zero-add, add-suc, suc-add, le-of-suc-le-suc, not-suc-le-zero}
+use native.Mathlib.Numerals.{add-one}
+use native.Mathlib.Omega.{arith}
+use lib.ListN.{length, getD, take, drop, set, length-append, length-take, length-drop, take-append-drop, List·getD-append, List·getD-eq-default}
+use lib.Seq.{ext-getD, append-snoc, getD-drop, getD-append-add, drop-length, drop-cons, set-at, take-at, drop-append-add, drop-drop}
+use Rattle.places.specs.Tab.{tab, tabFrom, over}
+
+length-from : {A : Type 0} (s n : ℕ) (f : ℕ → A) → length (tabFrom s n f) ≡ n
+unfolding tabFrom
+length-from s zero f = refl
+length-from s (suc n) f = ap suc (length-from (suc s) n f)
+
+getD-from : {A : Type 0} (s n : ℕ) (f : ℕ → A) (i : ℕ) (d : A) → i < n → getD (tabFrom s n f) i d ≡ f (s + i)
+unfolding tabFrom
+getD-from s zero f i d h = absurd (not-suc-le-zero h)
+getD-from s (suc n) f zero d h = ap f (sym (add-zero s))
+getD-from s (suc n) f (suc i) d h = getD-from (suc s) n f i d (le-of-suc-le-suc h) ∙ ap f (suc-add s i ∙ sym (add-suc s i))
+
+from-snoc : {A : Type 0} (s n : ℕ) (f : ℕ → A) → tabFrom s (suc n) f ≡ tabFrom s n f ++ (f (s + n) ∷ [])
+unfolding tabFrom
+from-snoc s zero f = ap (λ k. f k ∷ []) (sym (add-zero s))
+from-snoc s (suc n) f = ap (λ l. f s ∷ l) (from-snoc (suc s) n f ∙ ap (λ k. tabFrom (suc s) n f ++ (f k ∷ [])) (suc-add s n ∙ sym (add-suc s n)))
+
+pub length-tab : {A : Type 0} (n : ℕ) (f : ℕ → A) → length (tab n f) ≡ n
+unfolding tab
+length-tab n f = length-from 0 n f
+
+pub getD-tab : {A : Type 0} (n : ℕ) (f : ℕ → A) (i : ℕ) (d : A) → i < n → getD (tab n f) i d ≡ f i
+unfolding tab
+getD-tab n f i d h = getD-from 0 n f i d h ∙ ap f (zero-add i)
+
+-- one entry more
+pub tab-snoc : {A : Type 0} (n : ℕ) (f : ℕ → A) → tab (n + 1) f ≡ tab n f ++ (f n ∷ [])
+unfolding tab
+tab-snoc n f = rw add-one (from-snoc 0 n f ∙ ap (λ k. tabFrom 0 n f ++ (f k ∷ [])) (zero-add n))
+
+-- n entries, and then m more
+pub tab-append : {A : Type 0} (n m : ℕ) (f : ℕ → A) → tab (n + m) f ≡ tab n f ++ tab m (λ k. f (n + k))
+unfolding tab tabFrom
+tab-append n zero f = rw (add-zero, append-nil)
+tab-append n (suc m) f =
+    ap (λ k. tab k f) (add-suc n m ∙ sym (add-one (n + m)))
+    ∙ tab-snoc (n + m) f
+    ∙ ap (λ l. l ++ (f (n + m) ∷ [])) (tab-append n m f)
+    ∙ append-assoc (tab n f) (tab m (λ k. f (n + k))) (f (n + m) ∷ [])
+    ∙ ap (λ l. tab n f ++ l) (sym (tab-snoc m (λ k. f (n + k))) ∙ ap (λ k. tab k (λ k. f (n + k))) (add-one m))
+
+-- two rules that agree below n give one list
+pub tab-ext : {A : Type 0} (n : ℕ) (f g : ℕ → A) (d : A) → ((i : ℕ) → i < n → f i ≡ g i) → tab n f ≡ tab n g
+tab-ext n f g d h =
+    ext-getD d (tab n f) (tab n g) (length-tab n f ∙ sym (length-tab n g))
+    (λ i b. let b′ : i < n = omega (arith, length-tab n f) in
+    getD-tab n f i d b′ ∙ h i b′ ∙ sym (getD-tab n g i d b′))
+
+-- a list is the tab of its own entries
+pub tab-getD : {A : Type 0} (l : List A) (d : A) (n : ℕ) → length l ≡ n → tab n (λ i. getD l i d) ≡ l
+tab-getD l d n e =
+    ext-getD d (tab n (λ i. getD l i d)) l (length-tab n (λ i. getD l i d) ∙ sym e)
+    (λ i b. getD-tab n (λ i. getD l i d) i d (omega (arith, length-tab n (λ i. getD l i d))))
+
+-- a list is a tab exactly when it has the tab's length and entries
+pub is-tab : {A : Type 0} (l : List A) (n : ℕ) (f : ℕ → A) (d : A) → length l ≡ n → ((i : ℕ) → i < n → getD l i d ≡ f i) → l ≡ tab n f
+is-tab l n f d e h = sym (tab-getD l d n e) ∙ tab-ext n (λ i. getD l i d) f d h
+
+-- the list l with its first n entries rewritten by the rule f
+abbrev pub front : {A : Type 0} → ℕ → (ℕ → A) → List A → List A
+front n f l = tab n f ++ drop n l
+
+pub length-front : {A : Type 0} (n : ℕ) (f : ℕ → A) (l : List A) → n ≤ length l → length (front n f l) ≡ length l
+length-front n f l h = simp (length-append, length-tab, length-drop) (omega arith)
+
+-- nothing is rewritten yet
+pub front-none : {A : Type 0} (f : ℕ → A) (l : List A) → l ≡ front 0 f l
+unfolding tab tabFrom
+front-none f l = refl
+
+-- the next entry is rewritten
+pub front-more : {A : Type 0} (n : ℕ) (f : ℕ → A) (l : List A) (d : A) → n < length l → set (front n f l) n (f n) ≡ front (n + 1) f l
+front-more n f l d h =
+    rw (drop-cons l n d, set-at (tab n f) (getD l n d) (drop (suc n) l) (f n) n (length-tab n f), tab-snoc, append-assoc, add-one)
+
+-- all is rewritten
+pub front-all : {A : Type 0} (n : ℕ) (f : ℕ → A) (l : List A) → length l ≡ n → front n f l ≡ tab n f
+front-all n f l e = rw (← e, drop-length, append-nil)
+
+-- what is not rewritten yet stands as it was
+pub front-later : {A : Type 0} (n : ℕ) (f : ℕ → A) (l : List A) (i : ℕ) (d : A) → n ≤ i → getD (front n f l) i d ≡ getD l i d
+front-later n f l i d h =
+    let e : i ≡ length (tab n f) + (i - n) = omega (arith, length-tab n f) in
+    ap (λ k. getD (front n f l) k d) e
+    ∙ getD-append-add (tab n f) (drop n l) (i - n) d
+    ∙ getD-drop n l (i - n) d
+    ∙ ap (λ k. getD l k d) (omega arith)
+
+-- the same for a run that is written over a list from place p on
+
+pub over-none : {A : Type 0} (p : ℕ) (f : ℕ → A) (l : List A) → l ≡ over p (tab 0 f) l
+unfolding tab tabFrom over
+over-none p f l = rw (add-zero, append-nil, take-append-drop)
+
+pub over-more : {A : Type 0} (p n : ℕ) (f : ℕ → A) (l : List A) (d : A) → p + n < length l
+    → set (over p (tab n f) l) (p + n) (f n) ≡ over p (tab (n + 1) f) l
+unfolding over
+over-more p n f l d h =
+    let e : length (take p l ++ tab n f) ≡ p + n = simp (length-append, length-take, length-tab) (omega arith) in
+    simp length-tab
+    (rw (drop-cons l (p + n) d h, set-at (take p l ++ tab n f) (getD l (p + n) d) (drop (suc (p + n)) l) (f n) (p + n) e)
+    (rw (tab-snoc, ← append-assoc (take p l) (tab n f) (f n ∷ []), append-snoc, add-one, add-suc)))
+
+pub length-over : {A : Type 0} (p : ℕ) (x l : List A) → p + length x ≤ length l → length (over p x l) ≡ length l
+unfolding over
+length-over p x l h = simp (length-append, length-take, length-drop) (omega arith)
+
+pub length-run : {A : Type 0} (p n : ℕ) (f : ℕ → A) (l : List A) → p + n ≤ length l → length (over p (tab n f) l) ≡ length l
+length-run p n f l h = length-over p (tab n f) l (rw length-tab h)
+
+drop-past : {A : Type 0} (x y : List A) (n m : ℕ) → length x ≡ n → drop (n + m) (x ++ y) ≡ drop m y
+drop-past x y n m e = rw (← e, drop-append-add)
+
+-- a run that goes on where the one before ended
+pub over-run : {A : Type 0} (p n m : ℕ) (f : ℕ → A) (l : List A) → p + n + m ≤ length l
+    → over (p + n) (tab m (λ k. f (n + k))) (over p (tab n f) l) ≡ over p (tab (n + m) f) l
+unfolding over
+over-run p n m f l h =
+    let e : length (take p l ++ tab n f) ≡ p + n = simp (length-append, length-take, length-tab) (omega arith) in
+    simp (length-tab)
+    (rw (take-at (take p l ++ tab n f) (drop (p + n) l) (p + n) e, drop-past (take p l ++ tab n f) (drop (p + n) l) (p + n) m e, drop-drop m (p + n) l, tab-append, ← append-assoc (take p l), add-assoc))
+
+-- a run that is as long as the list
+pub over-all : {A : Type 0} (n : ℕ) (f : ℕ → A) (l : List A) → length l ≡ n → over 0 (tab n f) l ≡ tab n f
+unfolding over
+over-all n f l e = rw (length-tab, zero-add, ← e, drop-length, append-nil)
+
+-- the entries of a strided run lie within the list if its last one does
+pub strided : (from k s count n : ℕ) → k < count → from + count * s < n + s → from + k * s < n
+strided from k s count n h b =
+    let m : suc k * s ≤ count * s = mul-le-mul-right s h in
+    let e : suc k * s ≡ k * s + s = suc-mul k s in
+    omega arith

@@ -1,0 +1,148 @@
+-- The arithmetic of the walk that transpose and untranspose are made of, and the laws of the two.
+-- Assumes nothing.
+use mathlib.Core.Path.{_≡_, sym, ap, ap₂, _∙_, subst}
+use mathlib.Core.List.{List}
+use Prim.Native.Nat.{ℕ, zero, suc, _+_, _*_, _/_, _%_, _≤_, _<_}
+use native.Mathlib.Nat.{zero-add, add-assoc, add-mul, mul-comm, mul-left-comm, mul-right-comm, mul-suc, suc-mul, mul-zero, mul-le-mul-right}
+use native.Mathlib.Numerals.{add-one}
+use native.Mathlib.Omega.{arith}
+use lib.Arith.{digits-lt, digits-div, digits-mod}
+use lib.ListN.{length, getD}
+use borrow.Author.Tests.{eq-eqb, ne-eqb}
+use Rattle.places.specs.declared.Answer.the-variants.{Done, Block}
+use Rattle.places.specs.Places.{order, source, target}
+use Rattle.places.specs.Tab.{tab, over}
+use Rattle.places.specs.Transposes.{transposeOf, untransposeOf, blocksAnswer, walk}
+use Rattle.places.proofs.Every.{same, below}
+use Rattle.places.proofs.Places.{source-target, target-source, source-lt, target-lt}
+use Rattle.places.proofs.Tabs.{getD-tab, is-tab, tab-ext, over-run}
+
+pub order-lt : (n : ℕ) → n < 8 → order n < 8
+unfolding order
+order-lt = below 8 order (λ _. 8) tt
+
+left-factor : (a b : ℕ) → a * b ≡ 128 → a ≤ 128
+left-factor a zero e = let z : a * zero ≡ zero = mul-zero a in omega arith
+left-factor a (suc b) e = let z : a * suc b ≡ a * b + a = mul-suc a b in omega arith
+
+-- that run o of a part, which begins at w in the order list, lies within the input and fits where it is put
+pub record Run (parts count part o w : ℕ) : Type 0 where
+  pub few : parts ≤ 128
+  pub start : w * parts + part < 8 * parts
+  pub inside : (w * parts + part) + count * (8 * parts) < 1024 + 8 * parts
+  pub room : (part * 8 + o) * count + count ≤ 1024
+
+module _ (parts count : ℕ) (whole : parts * count ≡ 128) where
+  -- eight runs in each of the parts
+  pub all-runs : parts * 8 * count ≡ 1024
+  all-runs = mul-right-comm parts 8 count ∙ ap (λ n. n * 8) whole
+
+  module _ (part o w : ℕ) (hp : part < parts) (ho : o < 8) (ew : w ≡ order o) where
+    pub run : Run parts count part o w
+    run =
+        let hw : w < 8 = subst (λ n. n < 8) (sym ew) (order-lt o ho) in
+        let s : w * parts + part < 8 * parts = digits-lt hw hp in
+        let e : count * (8 * parts) ≡ 1024 = mul-left-comm count 8 parts ∙ ap (λ n. 8 * n) (mul-comm count parts ∙ whole) in
+        let m : suc (part * 8 + o) * count ≤ parts * 8 * count = mul-le-mul-right count (omega arith) in
+        record {
+          few = left-factor parts count whole;
+          start = s;
+          inside = omega arith;
+          room = omega (arith, all-runs, suc-mul (part * 8 + o) count);
+        }
+
+    -- where the walk finds the values of the run
+    walk-at : (k : ℕ) → k < count → walk parts count ((part * 8 + o) * count + k) ≡ (w * parts + part) + k * (8 * parts)
+    unfolding walk
+    walk-at k hk =
+        let q : (part * 8 + o) / 8 ≡ part = omega arith in
+        let r : (part * 8 + o) % 8 ≡ o = omega arith in
+        rw (digits-div (part * 8 + o) hk, digits-mod (part * 8 + o) hk, q, r, ew)
+
+  -- one run more of a part of the output
+  pub run-more : (input l : List ℕ) (part o w : ℕ) → part < parts → o < 8 → w ≡ order o → length l ≡ 1024
+      → over ((part * 8 + o) * count) (tab count (λ k. getD input ((w * parts + part) + k * (8 * parts)) 0))
+      (over (part * 8 * count) (tab (o * count) (λ i. getD input (walk parts count (part * 8 * count + i)) 0)) l)
+      ≡ over (part * 8 * count) (tab ((o + 1) * count) (λ i. getD input (walk parts count (part * 8 * count + i)) 0)) l
+  run-more input l part o w hp ho ew el =
+      let p : ℕ = part * 8 * count in
+      let f : ℕ → ℕ = λ i. getD input (walk parts count (p + i)) 0 in
+      let at : (part * 8 + o) * count ≡ p + o * count = add-mul (part * 8) o count in
+      let values : tab count (λ k. getD input ((w * parts + part) + k * (8 * parts)) 0) ≡ tab count (λ k. f (o * count + k)) =
+      tab-ext count _ _ 0
+      (λ k hk.
+      ap (λ i. getD input i 0)
+      (sym (walk-at part o w hp ho ew k hk)
+      ∙ ap (walk parts count) (ap (λ n. n + k) at ∙ add-assoc p (o * count) k))) in
+      let room : p + o * count + count ≤ length l = omega (arith, run part o w hp ho ew .room) in
+      ap₂ (λ i r. over i r (over p (tab (o * count) f) l)) at values
+      ∙ over-run p (o * count) count f l room
+      ∙ ap (λ n. over p (tab n f) l) (sym (suc-mul o count) ∙ ap (λ n. n * count) (sym (add-one o)))
+
+  -- one part more of the output
+  pub part-more : (f : ℕ → ℕ) (l : List ℕ) (part : ℕ) → part < parts → length l ≡ 1024
+      → over (part * 8 * count) (tab (8 * count) (λ i. f (part * 8 * count + i))) (over 0 (tab (part * 8 * count) f) l)
+      ≡ over 0 (tab ((part + 1) * 8 * count) f) l
+  part-more f l part hp el =
+      let p : ℕ = part * 8 * count in
+      let e : (part + 1) * 8 * count ≡ p + 8 * count = ap (λ n. n * count) (omega arith) ∙ add-mul (part * 8) 8 count in
+      let m : (part + 1) * 8 * count ≤ parts * 8 * count = mul-le-mul-right count (omega arith) in
+      let room : 0 + p + 8 * count ≤ length l = omega (arith, all-runs) in
+      ap (λ i. over i (tab (8 * count) (λ i. f (p + i))) (over 0 (tab p f) l)) (sym (zero-add p))
+      ∙ over-run 0 p (8 * count) f l room
+      ∙ ap (λ n. over 0 (tab n f) l) (sym e)
+
+-- the walk's rule at the two ways in which it is used
+
+pub walk-source : (v : List ℕ) → tab 1024 (λ i. getD v (walk 8 16 i) 0) ≡ transposeOf v
+unfolding order source walk transposeOf
+walk-source v = tab-ext 1024 _ _ 0 (λ i h. ap (λ k. getD v k 0) (same 1024 (walk 8 16) source tt i h))
+
+pub walk-target : (v : List ℕ) → tab 1024 (λ i. getD v (walk 16 8 i) 0) ≡ untransposeOf v
+unfolding order target walk untransposeOf
+walk-target v = tab-ext 1024 _ _ 0 (λ i h. ap (λ k. getD v k 0) (same 1024 (walk 16 8) target tt i h))
+
+-- untranspose puts the value found at i at the source of i
+pub untranspose-puts : (v : List ℕ) (i : ℕ) → i < 1024 → getD (untransposeOf v) (source i) 0 ≡ getD v i 0
+unfolding untransposeOf
+untranspose-puts v i h =
+    getD-tab 1024 (λ j. getD v (target j) 0) (source i) 0 (source-lt i h) ∙ ap (λ k. getD v k 0) (target-source i h)
+
+-- and that fixes the whole block
+pub untranspose-only : (v x : List ℕ) → length x ≡ 1024 → ((i : ℕ) → i < 1024 → getD x (source i) 0 ≡ getD v i 0) → x ≡ untransposeOf v
+unfolding untransposeOf
+untranspose-only v x e puts =
+    is-tab x 1024 (λ j. getD v (target j) 0) 0 e
+    (λ j h. ap (λ k. getD x k 0) (sym (source-target j h)) ∙ puts (target j) (target-lt j h))
+
+-- each undoes the other, for every block
+
+pub untranspose-transpose : (v : List ℕ) → length v ≡ 1024 → untransposeOf (transposeOf v) ≡ v
+unfolding transposeOf untransposeOf
+untranspose-transpose v e =
+    sym (is-tab v 1024 _ 0 e
+    (λ j h.
+    ap (λ k. getD v k 0) (sym (source-target j h))
+    ∙ sym (getD-tab 1024 (λ i. getD v (source i) 0) (target j) 0 (target-lt j h))))
+
+pub transpose-untranspose : (v : List ℕ) → length v ≡ 1024 → transposeOf (untransposeOf v) ≡ v
+unfolding transposeOf untransposeOf
+transpose-untranspose v e =
+    sym (is-tab v 1024 _ 0 e
+    (λ j h.
+    ap (λ k. getD v k 0) (sym (target-source j h))
+    ∙ sym (getD-tab 1024 (λ i. getD v (target i) 0) (source j) 0 (source-lt j h))))
+
+-- what the two calls answer, by the tests that they make
+
+pub bad-input : (i o : List ℕ) → (length i ≡ 1024 → ⊥) → blocksAnswer i o ≡ Block
+unfolding blocksAnswer
+bad-input i o h = simp (ne-eqb (length i) 1024 h)
+
+pub bad-output : (i o : List ℕ) → length i ≡ 1024 → (length o ≡ 1024 → ⊥) → blocksAnswer i o ≡ Block
+unfolding blocksAnswer
+bad-output i o e h = simp (eq-eqb (length i) 1024 e, ne-eqb (length o) 1024 h)
+
+pub good-blocks : (i o : List ℕ) → length i ≡ 1024 → length o ≡ 1024 → blocksAnswer i o ≡ Done
+unfolding blocksAnswer
+good-blocks i o e f = simp (eq-eqb (length i) 1024 e, eq-eqb (length o) 1024 f)

@@ -1,0 +1,96 @@
+-- `places::t16::gather` meets its contract. The loop's invariant: the first k values of the run stand in their places.
+-- Assumes nothing.
+use mathlib.Core.Path.{_≡_, sym, ap, _∙_, subst}
+use Prim.Native.Nat.{ℕ, _+_, _-_, _*_, _≤_, _<_}
+use native.Mathlib.Nat.{le-antisymm}
+use native.Mathlib.Omega.{arith}
+use denote.Ref.{now}
+use lib.ListN.{length, getD}
+use borrow.Author.Needs.{needs}
+use Rattle.places.specs.Tab.{tab, over}
+use Rattle.places.proofs.Tabs.{over-none, over-more, length-run, strided}
+use Rattle.places.proofs.t16.gather.Statement.{statement}
+use Rattle.places.proofs.t16.gather.Tie as tie
+
+abbrev Inv-loop : tie.InvT-loop
+Inv-loop input from stride output₀ to count k₀ output k =
+    (k ≤ count) × (output ≡ over to (tab k (λ k. getD input (from + k * stride) 0)) output₀)
+
+abbrev μ-loop : tie.MeasureT-loop
+μ-loop input from stride output₀ to count k₀ output k = count - k
+
+loop-holds : tie.Need-loop-holds Inv-loop μ-loop
+loop-holds c = (search needs, over-none _ _ _)
+
+-- the value that a turn reads lies within the input
+within : (c : tie.In-loop Inv-loop μ-loop)
+    → c .before .before .args .from + c .before .loop .k * c .before .before .args .stride < length (now (c .before .before .args .input))
+within c = strided _ _ _ _ _ (c .loop-test .taken) (c .before .before .pre .0)
+
+-- the output is as long as it was
+long : (c : tie.At-loop Inv-loop μ-loop) → length (c .loop .output) ≡ length (now (c .before .args .output))
+long c = ap length (c .loop .inv .1) ∙ length-run _ _ _ _ (omega arith)
+
+mul-output : tie.Need-mul-output Inv-loop μ-loop
+mul-output c = omega (arith, within c)
+
+add-output : tie.Need-add-output Inv-loop μ-loop
+add-output c = omega (arith, within c)
+
+-- sizes: not at t8
+mul-output-2 : tie.Need-mul-output-2 Inv-loop μ-loop
+mul-output-2 c = omega (arith, within c)
+
+-- sizes: end
+
+shared-slice-read-output : tie.Need-shared-slice-read-output Inv-loop μ-loop
+shared-slice-read-output c = within (c .before)
+
+add-output-2 : tie.Need-add-output-2 Inv-loop μ-loop
+add-output-2 c = omega arith
+
+-- sizes: not at t8
+mul-output-3 : tie.Need-mul-output-3 Inv-loop μ-loop
+mul-output-3 c = omega arith
+
+-- sizes: end
+
+slice-write-output : tie.Need-slice-write-output Inv-loop μ-loop
+slice-write-output c = omega (arith, long (c .before .before))
+
+add-k : tie.Need-add-k Inv-loop μ-loop
+add-k c = omega arith
+
+loop-less : tie.Need-loop-less Inv-loop μ-loop
+loop-less c = omega arith
+
+loop-again : tie.Need-loop-again Inv-loop μ-loop
+loop-again c = (omega arith, rw (c .before .before .loop .inv .1) (over-more _ _ _ _ 0 (omega arith)))
+
+same-length : tie.Need-same-length Inv-loop μ-loop
+same-length c = long (c .before)
+
+returns : tie.Need-returns Inv-loop μ-loop
+returns c =
+    let e : c .before .loop .k ≡ c .before .before .args .count = omega arith in
+    rw e at (c .before .loop .inv .1)
+
+pub gather-spec : {M : Type 1} → statement M
+gather-spec =
+    tie.close
+    (tie.spec
+    Inv-loop
+    μ-loop
+    loop-holds
+    mul-output
+    add-output
+    mul-output-2
+    shared-slice-read-output
+    add-output-2
+    mul-output-3
+    slice-write-output
+    add-k
+    loop-less
+    loop-again
+    same-length
+    returns)

@@ -1,0 +1,14 @@
+-- `places::t32::row_table` meets its contract: table and rule are equal at all 1,024 places, by computation.
+-- Assumes nothing.
+use mathlib.Core.Path.{refl}
+use Rattle.places.specs.Places.{order, lane, row}
+use Rattle.places.specs.Tab.{tab, tabFrom}
+use Rattle.places.proofs.t32.row_table.Statement.{statement}
+use Rattle.places.proofs.t32.row_table.Tie as tie
+
+returns : tie.Need-returns
+unfolding tab tabFrom order lane row
+returns c = refl
+
+pub row-table-spec : {M : Type 1} → statement M
+row-table-spec = tie.close (tie.spec returns)

@@ -1,0 +1,33 @@
+-- `places::t64::untranspose` meets its contract: a refusal by what its test shows, and the block by the walk's rule.
+-- Assumes nothing.
+use mathlib.Core.Path.{refl, _∙_}
+use native.Mathlib.Omega.{arith}
+use denote.Ref.{now}
+use borrow.Author.Needs.{needs}
+use Rattle.places.specs.Transposes.{untransposeLeaves}
+use Rattle.places.proofs.Walks.{walk-target, bad-input, bad-output, good-blocks}
+use Rattle.places.proofs.t64.untranspose.Statement.{statement}
+use Rattle.places.proofs.t64.untranspose.Tie as tie
+
+returns : tie.Need-returns
+unfolding untransposeLeaves
+returns c = rw (bad-input _ _ (c .if1 .taken)) (refl, refl)
+
+returns-2 : tie.Need-returns-2
+unfolding untransposeLeaves
+returns-2 c = rw (bad-output _ _ (c .before .if1 .left) (c .if2 .taken)) (refl, refl)
+
+permute-requires : tie.Need-permute-requires
+permute-requires c κs = search needs
+
+same-length : tie.Need-same-length
+same-length c = search needs
+
+returns-3 : tie.Need-returns-3
+unfolding untransposeLeaves
+returns-3 c =
+    let at-start = c .before .before .before .before .before .before .before .before in
+    rw (good-blocks (now (at-start .args .input)) (now (at-start .args .output)) (omega arith) (omega arith)) (refl, c .before .before .permute .ensures ∙ walk-target (now (at-start .args .input)))
+
+pub untranspose-spec : {M : Type 1} → statement M
+untranspose-spec = tie.close (tie.spec returns returns-2 permute-requires same-length returns-3)

@@ -1,0 +1,39 @@
+-- What a call answers: the table of document 01, "Numbers given back".
+-- Assumes nothing.
+use mathlib.Core.List.{List}
+use Prim.Native.Nat.{ℕ}
+use Rattle.places.specs.declared.Answer.{Answer}
+use Rattle.places.specs.declared.Answer.the-variants.{Done, Width, Block, Packed, Base, Lists, Index, Entry}
+
+-- the number of the table
+abbrev pub numberOf : Answer → ℕ
+numberOf Done = 0
+numberOf Width = 1
+numberOf Block = 2
+numberOf Packed = 3
+numberOf Base = 4
+numberOf Lists = 5
+numberOf (Index p) = 6
+numberOf (Entry p) = 7
+
+-- the place that is returned with it
+abbrev pub placeOf : Answer → ℕ
+placeOf Done = 0
+placeOf Width = 0
+placeOf Block = 0
+placeOf Packed = 0
+placeOf Base = 0
+placeOf Lists = 0
+placeOf (Index p) = p
+placeOf (Entry p) = p
+
+-- What a lent buffer holds after a call: where the call is done what it should hold, and after a refusal what it held.
+abbrev pub left : {A : Type 0} → Answer → A → A → A
+left Done new old = new
+left Width new old = old
+left Block new old = old
+left Packed new old = old
+left Base new old = old
+left Lists new old = old
+left (Index p) new old = old
+left (Entry p) new old = old

@@ -1,0 +1,36 @@
+-- The value transpose and its inverse (document 01, "Places, lanes and rows"): what each call answers, and what it leaves in its output.
+-- Neither depends on the element size.
+-- Assumes nothing.
+use mathlib.Core.List.{List}
+use Prim.Native.Nat.{ℕ, _+_, _*_, _/_, _%_}
+use lib.Dec.{eqb}
+use lib.ListN.{length, getD}
+use Rattle.places.specs.declared.Answer.{Answer}
+use Rattle.places.specs.declared.Answer.the-variants.{Done, Block}
+use Rattle.places.specs.Answers.{left}
+use Rattle.places.specs.Pick.{pick, both}
+use Rattle.places.specs.Places.{order, source, target}
+use Rattle.places.specs.Tab.{tab}
+
+-- Transpose puts at i the value found at the source of i.
+unfoldable pub transposeOf : List ℕ → List ℕ
+transposeOf v = tab 1024 (λ i. getD v (source i) 0)
+
+-- Untranspose puts the value found at i at the source of i: so at j stands the value found at the place whose source is j.
+unfoldable pub untransposeOf : List ℕ → List ℕ
+untransposeOf v = tab 1024 (λ j. getD v (target j) 0)
+
+-- 2 exactly when one of the two blocks is not 1,024 long
+unfoldable pub blocksAnswer : List ℕ → List ℕ → Answer
+blocksAnswer input output = pick (both (eqb (length input) 1024) (eqb (length output) 1024)) Done Block
+
+unfoldable pub transposeLeaves : List ℕ → List ℕ → List ℕ
+transposeLeaves input output = left (blocksAnswer input output) (transposeOf input) output
+
+unfoldable pub untransposeLeaves : List ℕ → List ℕ → List ℕ
+untransposeLeaves input output = left (blocksAnswer input output) (untransposeOf input) output
+
+-- The walk that both calls are made of: it reads in `parts` parts, each in eight runs of `count` values. At `parts` 8 and `count` 16 its
+-- rule is the source, and at 16 and 8 the target.
+unfoldable pub walk : ℕ → ℕ → ℕ → ℕ
+walk parts count i = (order ((i / count) % 8) * parts + i / count / 8) + (i % count) * (8 * parts)
