@@ -1,13 +1,13 @@
 -- The laws of tab, and the one law behind every loop that rewrites a list front to back.
 -- Assumes nothing.
-use mathlib.Core.Path.{_≡_, refl, sym, ap, _∙_}
+use mathlib.Core.Path.{_≡_, refl, sym, ap, ap₂, _∙_}
 use mathlib.Core.List.{List, [], _∷_, _++_, append-nil, append-assoc}
 use Prim.Native.Nat.{ℕ, zero, suc, _+_, _-_, _*_, _≤_, _<_}
 use native.Mathlib.Nat.{mul-le-mul-right, suc-mul, add-assoc, add-zero, zero-add, add-suc, suc-add, le-of-suc-le-suc, not-suc-le-zero}
 use native.Mathlib.Numerals.{add-one}
 use native.Mathlib.Omega.{arith}
 use lib.ListN.{length, getD, take, drop, set, length-append, length-take, length-drop, take-append-drop, List·getD-append, List·getD-eq-default}
-use lib.Seq.{ext-getD, append-snoc, getD-drop, getD-append-add, drop-length, drop-cons, set-at, take-at, drop-append-add, drop-drop}
+use lib.Seq.{ext-getD, getD-take, append-snoc, getD-drop, getD-append-add, drop-length, drop-cons, set-at, take-at, drop-append-add, drop-drop}
 use Rattle.places.specs.Tab.{tab, tabFrom, over}
 
 length-from : {A : Type 0} (s n : ℕ) (f : ℕ → A) → length (tabFrom s n f) ≡ n
@@ -67,43 +67,13 @@ tab-getD l d n e =
 pub is-tab : {A : Type 0} (l : List A) (n : ℕ) (f : ℕ → A) (d : A) → length l ≡ n → ((i : ℕ) → i < n → getD l i d ≡ f i) → l ≡ tab n f
 is-tab l n f d e h = sym (tab-getD l d n e) ∙ tab-ext n (λ i. getD l i d) f d h
 
--- the list l with its first n entries rewritten by the rule f
-abbrev pub front : {A : Type 0} → ℕ → (ℕ → A) → List A → List A
-front n f l = tab n f ++ drop n l
+-- writing over a list: nothing, one entry more, a run more, all of it
 
-pub length-front : {A : Type 0} (n : ℕ) (f : ℕ → A) (l : List A) → n ≤ length l → length (front n f l) ≡ length l
-length-front n f l h = simp (length-append, length-tab, length-drop) (omega arith)
-
--- nothing is rewritten yet
-pub front-none : {A : Type 0} (f : ℕ → A) (l : List A) → l ≡ front 0 f l
-unfolding tab tabFrom
-front-none f l = refl
-
--- the next entry is rewritten
-pub front-more : {A : Type 0} (n : ℕ) (f : ℕ → A) (l : List A) (d : A) → n < length l → set (front n f l) n (f n) ≡ front (n + 1) f l
-front-more n f l d h =
-    rw (drop-cons l n d, set-at (tab n f) (getD l n d) (drop (suc n) l) (f n) n (length-tab n f), tab-snoc, append-assoc, add-one)
-
--- all is rewritten
-pub front-all : {A : Type 0} (n : ℕ) (f : ℕ → A) (l : List A) → length l ≡ n → front n f l ≡ tab n f
-front-all n f l e = rw (← e, drop-length, append-nil)
-
--- what is not rewritten yet stands as it was
-pub front-later : {A : Type 0} (n : ℕ) (f : ℕ → A) (l : List A) (i : ℕ) (d : A) → n ≤ i → getD (front n f l) i d ≡ getD l i d
-front-later n f l i d h =
-    let e : i ≡ length (tab n f) + (i - n) = omega (arith, length-tab n f) in
-    ap (λ k. getD (front n f l) k d) e
-    ∙ getD-append-add (tab n f) (drop n l) (i - n) d
-    ∙ getD-drop n l (i - n) d
-    ∙ ap (λ k. getD l k d) (omega arith)
-
--- the same for a run that is written over a list from place p on
-
-pub over-none : {A : Type 0} (p : ℕ) (f : ℕ → A) (l : List A) → l ≡ over p (tab 0 f) l
+over-none : {A : Type 0} (p : ℕ) (f : ℕ → A) (l : List A) → l ≡ over p (tab 0 f) l
 unfolding tab tabFrom over
 over-none p f l = rw (add-zero, append-nil, take-append-drop)
 
-pub over-more : {A : Type 0} (p n : ℕ) (f : ℕ → A) (l : List A) (d : A) → p + n < length l
+over-more : {A : Type 0} (p n : ℕ) (f : ℕ → A) (l : List A) (d : A) → p + n < length l
     → set (over p (tab n f) l) (p + n) (f n) ≡ over p (tab (n + 1) f) l
 unfolding over
 over-more p n f l d h =
@@ -112,29 +82,108 @@ over-more p n f l d h =
     (rw (drop-cons l (p + n) d h, set-at (take p l ++ tab n f) (getD l (p + n) d) (drop (suc (p + n)) l) (f n) (p + n) e)
     (rw (tab-snoc, ← append-assoc (take p l) (tab n f) (f n ∷ []), append-snoc, add-one, add-suc)))
 
-pub length-over : {A : Type 0} (p : ℕ) (x l : List A) → p + length x ≤ length l → length (over p x l) ≡ length l
-unfolding over
-length-over p x l h = simp (length-append, length-take, length-drop) (omega arith)
-
-pub length-run : {A : Type 0} (p n : ℕ) (f : ℕ → A) (l : List A) → p + n ≤ length l → length (over p (tab n f) l) ≡ length l
-length-run p n f l h = length-over p (tab n f) l (rw length-tab h)
-
 drop-past : {A : Type 0} (x y : List A) (n m : ℕ) → length x ≡ n → drop (n + m) (x ++ y) ≡ drop m y
 drop-past x y n m e = rw (← e, drop-append-add)
 
--- a run that goes on where the one before ended
-pub over-run : {A : Type 0} (p n m : ℕ) (f : ℕ → A) (l : List A) → p + n + m ≤ length l
+over-run : {A : Type 0} (p n m : ℕ) (f : ℕ → A) (l : List A) → p + n + m ≤ length l
     → over (p + n) (tab m (λ k. f (n + k))) (over p (tab n f) l) ≡ over p (tab (n + m) f) l
 unfolding over
 over-run p n m f l h =
     let e : length (take p l ++ tab n f) ≡ p + n = simp (length-append, length-take, length-tab) (omega arith) in
-    simp (length-tab)
-    (rw (take-at (take p l ++ tab n f) (drop (p + n) l) (p + n) e, drop-past (take p l ++ tab n f) (drop (p + n) l) (p + n) m e, drop-drop m (p + n) l, tab-append, ← append-assoc (take p l), add-assoc))
+    simp length-tab
+    (rw (
+      take-at (take p l ++ tab n f) (drop (p + n) l) (p + n) e,
+      drop-past (take p l ++ tab n f) (drop (p + n) l) (p + n) m e,
+      drop-drop m (p + n) l,
+      tab-append,
+      ← append-assoc (take p l),
+      add-assoc,
+    ))
 
--- a run that is as long as the list
-pub over-all : {A : Type 0} (n : ℕ) (f : ℕ → A) (l : List A) → length l ≡ n → over 0 (tab n f) l ≡ tab n f
+over-all : {A : Type 0} (n : ℕ) (f : ℕ → A) (l : List A) → length l ≡ n → over 0 (tab n f) l ≡ tab n f
 unfolding over
 over-all n f l e = rw (length-tab, zero-add, ← e, drop-length, append-nil)
+
+pub length-over : {A : Type 0} (p : ℕ) (x l : List A) → p + length x ≤ length l → length (over p x l) ≡ length l
+unfolding over
+length-over p x l h = simp (length-append, length-take, length-drop) (omega arith)
+
+-- the entries of what was written over, and those before and after it
+module _ {A : Type 0} (p : ℕ) (x l : List A) (h : p + length x ≤ length l) (i : ℕ) (d : A) where
+  front-long : length (take p l ++ x) ≡ p + length x
+  front-long = simp (length-append, length-take) (omega arith)
+
+  pub getD-over-after : p + length x ≤ i → getD (over p x l) i d ≡ getD l i d
+  unfolding over
+  getD-over-after g =
+      let e : i ≡ length (take p l ++ x) + (i - (p + length x)) = omega (arith, front-long) in
+      ap (λ k. getD (over p x l) k d) e
+      ∙ getD-append-add (take p l ++ x) (drop (p + length x) l) (i - (p + length x)) d
+      ∙ getD-drop (p + length x) l (i - (p + length x)) d
+      ∙ ap (λ k. getD l k d) (omega arith)
+
+  pub getD-over-in : p ≤ i → i < p + length x → getD (over p x l) i d ≡ getD x (i - p) d
+  unfolding over
+  getD-over-in g b =
+      let t : length (take p l) ≡ p = simp length-take (omega arith) in
+      let e : i ≡ length (take p l) + (i - p) = omega arith in
+      List·getD-append (take p l ++ x) (drop (p + length x) l) d i (omega (arith, front-long))
+      ∙ ap (λ k. getD (take p l ++ x) k d) e
+      ∙ getD-append-add (take p l) x (i - p) d
+
+  pub getD-over-before : i < p → getD (over p x l) i d ≡ getD l i d
+  unfolding over
+  getD-over-before b =
+      let t : length (take p l) ≡ p = simp length-take (omega arith) in
+      List·getD-append (take p l ++ x) (drop (p + length x) l) d i (omega (arith, front-long))
+      ∙ List·getD-append (take p l) x d i (omega arith)
+      ∙ getD-take p l i d b
+
+-- The law behind every loop that writes front to back: y is x with f 0, .., f (n - 1) written over it from place p on.
+pub record Written {A : Type 0} (p n : ℕ) (f : ℕ → A) (x y : List A) : Type 0 where
+  pub room : p + n ≤ length x
+  pub is : y ≡ over p (tab n f) x
+
+-- nothing is written yet
+pub written-none : {A : Type 0} {p : ℕ} {f : ℕ → A} {x : List A} → p ≤ length x → Written p 0 f x x
+written-none {p = p} {f} {x} h = record { room = omega arith; is = over-none p f x }
+
+-- the list keeps its length
+pub written-length : {A : Type 0} {p n : ℕ} {f : ℕ → A} {x y : List A} → Written p n f x y → length y ≡ length x
+written-length {p = p} {n} {f} {x} w =
+    let h : p + length (tab n f) ≤ length x = rw length-tab (w .room) in
+    ap length (w .is) ∙ length-over p (tab n f) x h
+
+-- what is not written yet stands as it was
+pub written-later : {A : Type 0} {p n : ℕ} {f : ℕ → A} {x y : List A} → Written p n f x y → (i : ℕ) (d : A) → p + n ≤ i
+    → getD y i d ≡ getD x i d
+written-later {p = p} {n} {f} {x} w i d g =
+    let h : p + length (tab n f) ≤ length x = rw length-tab (w .room) in
+    ap (λ l. getD l i d) (w .is) ∙ getD-over-after p (tab n f) x h i d (omega (arith, length-tab n f))
+
+-- the next entry is written
+pub written-next : {A : Type 0} {p n : ℕ} {f : ℕ → A} {x y : List A} → Written p n f x y → (i : ℕ) (v : A) → p + n < length x → i ≡ p + n → v ≡ f n
+    → Written p (n + 1) f x (set y i v)
+written-next {p = p} {n} {f} {x} w i v h e r =
+    record { room = omega arith; is = (λ j. set (w .is j) (e j) (r j)) ∙ over-more p n f x v h }
+
+-- a run that goes on where the one before ended
+pub written-run : {A : Type 0} {p n m : ℕ} {f : ℕ → A} {x y z : List A} → Written p n f x y → (q : ℕ) → q ≡ p + n → Written q m (λ k. f (n + k)) y z
+    → Written p (n + m) f x z
+written-run {p = p} {n} {m} {f} {x} w q e v =
+    let h : p + n + m ≤ length x = omega (arith, written-length w, v .room) in
+    record {
+      room = omega arith;
+      is = v .is ∙ ap₂ (λ k l. over k (tab m (λ k. f (n + k))) l) e (w .is) ∙ over-run p n m f x h;
+    }
+
+-- the same with another rule, where the two agree on what is written
+pub written-ext : {A : Type 0} {p n : ℕ} {f g : ℕ → A} {x y : List A} (d : A) → Written p n f x y → ((k : ℕ) → k < n → f k ≡ g k) → Written p n g x y
+written-ext {p = p} {n} {f} {g} {x} d w h = record { room = w .room; is = w .is ∙ ap (λ l. over p l x) (tab-ext n f g d h) }
+
+-- all is written
+pub written-all : {A : Type 0} {n : ℕ} {f : ℕ → A} {x y : List A} → Written 0 n f x y → (m : ℕ) → n ≡ m → length x ≡ m → y ≡ tab m f
+written-all {n = n} {f} {x} w m e h = w .is ∙ ap (λ k. over 0 (tab k f) x) e ∙ over-all m f x h
 
 -- the entries of a strided run lie within the list if its last one does
 pub strided : (from k s count n : ℕ) → k < count → from + count * s < n + s → from + k * s < n

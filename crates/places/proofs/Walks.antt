@@ -1,6 +1,6 @@
 -- The arithmetic of the walk that transpose and untranspose are made of, and the laws of the two.
 -- Assumes nothing.
-use mathlib.Core.Path.{_≡_, sym, ap, ap₂, _∙_, subst}
+use mathlib.Core.Path.{_≡_, sym, ap, _∙_, subst}
 use mathlib.Core.List.{List}
 use Prim.Native.Nat.{ℕ, zero, suc, _+_, _*_, _/_, _%_, _≤_, _<_}
 use native.Mathlib.Nat.{zero-add, add-assoc, add-mul, mul-comm, mul-left-comm, mul-right-comm, mul-suc, suc-mul, mul-zero, mul-le-mul-right}
@@ -11,11 +11,11 @@ use lib.ListN.{length, getD}
 use borrow.Author.Tests.{eq-eqb, ne-eqb}
 use Rattle.places.specs.declared.Answer.the-variants.{Done, Block}
 use Rattle.places.specs.Places.{order, source, target}
-use Rattle.places.specs.Tab.{tab, over}
+use Rattle.places.specs.Tab.{tab}
 use Rattle.places.specs.Transposes.{transposeOf, untransposeOf, blocksAnswer, walk}
 use Rattle.places.proofs.Every.{same, below}
 use Rattle.places.proofs.Places.{source-target, target-source, source-lt, target-lt}
-use Rattle.places.proofs.Tabs.{getD-tab, is-tab, tab-ext, over-run}
+use Rattle.places.proofs.Tabs.{getD-tab, is-tab, tab-ext, Written, written-ext, written-run}
 
 pub order-lt : (n : ℕ) → n < 8 → order n < 8
 unfolding order
@@ -36,6 +36,11 @@ module _ (parts count : ℕ) (whole : parts * count ≡ 128) where
   -- eight runs in each of the parts
   pub all-runs : parts * 8 * count ≡ 1024
   all-runs = mul-right-comm parts 8 count ∙ ap (λ n. n * 8) whole
+
+  pub part-room : (part : ℕ) → part < parts → part * 8 * count + 8 * count ≤ 1024
+  part-room part hp =
+      let m : (part * 8 + 8) * count ≤ parts * 8 * count = mul-le-mul-right count (omega arith) in
+      omega (arith, all-runs, add-mul (part * 8) 8 count)
 
   module _ (part o w : ℕ) (hp : part < parts) (ho : o < 8) (ew : w ≡ order o) where
     pub run : Run parts count part o w
@@ -60,37 +65,29 @@ module _ (parts count : ℕ) (whole : parts * count ≡ 128) where
         rw (digits-div (part * 8 + o) hk, digits-mod (part * 8 + o) hk, q, r, ew)
 
   -- one run more of a part of the output
-  pub run-more : (input l : List ℕ) (part o w : ℕ) → part < parts → o < 8 → w ≡ order o → length l ≡ 1024
-      → over ((part * 8 + o) * count) (tab count (λ k. getD input ((w * parts + part) + k * (8 * parts)) 0))
-      (over (part * 8 * count) (tab (o * count) (λ i. getD input (walk parts count (part * 8 * count + i)) 0)) l)
-      ≡ over (part * 8 * count) (tab ((o + 1) * count) (λ i. getD input (walk parts count (part * 8 * count + i)) 0)) l
-  run-more input l part o w hp ho ew el =
+  pub run-more : (input : List ℕ) {x y z : List ℕ} (part o w : ℕ) → part < parts → o < 8 → w ≡ order o
+      → Written (part * 8 * count) (o * count) (λ i. getD input (walk parts count (part * 8 * count + i)) 0) x y
+      → Written ((part * 8 + o) * count) count (λ k. getD input ((w * parts + part) + k * (8 * parts)) 0) y z
+      → Written (part * 8 * count) ((o + 1) * count) (λ i. getD input (walk parts count (part * 8 * count + i)) 0) x z
+  run-more input {x} {y} {z} part o w hp ho ew before run =
       let p : ℕ = part * 8 * count in
-      let f : ℕ → ℕ = λ i. getD input (walk parts count (p + i)) 0 in
       let at : (part * 8 + o) * count ≡ p + o * count = add-mul (part * 8) o count in
-      let values : tab count (λ k. getD input ((w * parts + part) + k * (8 * parts)) 0) ≡ tab count (λ k. f (o * count + k)) =
-      tab-ext count _ _ 0
-      (λ k hk.
+      let values : (k : ℕ) → k < count → getD input ((w * parts + part) + k * (8 * parts)) 0 ≡ getD input (walk parts count (p + (o * count + k))) 0 =
+      λ k hk.
       ap (λ i. getD input i 0)
       (sym (walk-at part o w hp ho ew k hk)
-      ∙ ap (walk parts count) (ap (λ n. n + k) at ∙ add-assoc p (o * count) k))) in
-      let room : p + o * count + count ≤ length l = omega (arith, run part o w hp ho ew .room) in
-      ap₂ (λ i r. over i r (over p (tab (o * count) f) l)) at values
-      ∙ over-run p (o * count) count f l room
-      ∙ ap (λ n. over p (tab n f) l) (sym (suc-mul o count) ∙ ap (λ n. n * count) (sym (add-one o)))
+      ∙ ap (walk parts count) (ap (λ n. n + k) at ∙ add-assoc p (o * count) k)) in
+      subst (λ n. Written p n (λ i. getD input (walk parts count (p + i)) 0) x z) (sym (suc-mul o count) ∙ ap (λ n. n * count) (sym (add-one o)))
+      (written-run before ((part * 8 + o) * count) at (written-ext 0 run values))
 
   -- one part more of the output
-  pub part-more : (f : ℕ → ℕ) (l : List ℕ) (part : ℕ) → part < parts → length l ≡ 1024
-      → over (part * 8 * count) (tab (8 * count) (λ i. f (part * 8 * count + i))) (over 0 (tab (part * 8 * count) f) l)
-      ≡ over 0 (tab ((part + 1) * 8 * count) f) l
-  part-more f l part hp el =
-      let p : ℕ = part * 8 * count in
-      let e : (part + 1) * 8 * count ≡ p + 8 * count = ap (λ n. n * count) (omega arith) ∙ add-mul (part * 8) 8 count in
-      let m : (part + 1) * 8 * count ≤ parts * 8 * count = mul-le-mul-right count (omega arith) in
-      let room : 0 + p + 8 * count ≤ length l = omega (arith, all-runs) in
-      ap (λ i. over i (tab (8 * count) (λ i. f (p + i))) (over 0 (tab p f) l)) (sym (zero-add p))
-      ∙ over-run 0 p (8 * count) f l room
-      ∙ ap (λ n. over 0 (tab n f) l) (sym e)
+  pub part-more : {f : ℕ → ℕ} {x y z : List ℕ} (part : ℕ)
+      → Written 0 (part * 8 * count) f x y
+      → Written (part * 8 * count) (8 * count) (λ i. f (part * 8 * count + i)) y z
+      → Written 0 ((part + 1) * 8 * count) f x z
+  part-more {f} {x} {z = z} part before more =
+      let e : part * 8 * count + 8 * count ≡ (part + 1) * 8 * count = sym (ap (λ n. n * count) (omega arith) ∙ add-mul (part * 8) 8 count) in
+      subst (λ n. Written 0 n f x z) e (written-run before (part * 8 * count) (sym (zero-add (part * 8 * count))) more)
 
 -- the walk's rule at the two ways in which it is used
 

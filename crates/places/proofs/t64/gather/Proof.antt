@@ -1,35 +1,29 @@
 -- `places::t64::gather` meets its contract. The loop's invariant: the first k values of the run stand in their places.
 -- Assumes nothing.
-use mathlib.Core.Path.{_≡_, sym, ap, _∙_, subst}
+use mathlib.Core.Path.{_≡_, refl}
 use Prim.Native.Nat.{ℕ, _+_, _-_, _*_, _≤_, _<_}
-use native.Mathlib.Nat.{le-antisymm}
 use native.Mathlib.Omega.{arith}
 use denote.Ref.{now}
 use lib.ListN.{length, getD}
 use borrow.Author.Needs.{needs}
-use Rattle.places.specs.Tab.{tab, over}
-use Rattle.places.proofs.Tabs.{over-none, over-more, length-run, strided}
+use Rattle.places.proofs.Tabs.{Written, written-none, written-next, written-length, strided}
 use Rattle.places.proofs.t64.gather.Statement.{statement}
 use Rattle.places.proofs.t64.gather.Tie as tie
 
 abbrev Inv-loop : tie.InvT-loop
 Inv-loop input from stride output₀ to count k₀ output k =
-    (k ≤ count) × (output ≡ over to (tab k (λ k. getD input (from + k * stride) 0)) output₀)
+    (k ≤ count) × Written to k (λ k. getD input (from + k * stride) 0) output₀ output
 
 abbrev μ-loop : tie.MeasureT-loop
 μ-loop input from stride output₀ to count k₀ output k = count - k
 
 loop-holds : tie.Need-loop-holds Inv-loop μ-loop
-loop-holds c = (search needs, over-none _ _ _)
+loop-holds c = (search needs, written-none (omega arith))
 
 -- the value that a turn reads lies within the input
 within : (c : tie.In-loop Inv-loop μ-loop)
     → c .before .before .args .from + c .before .loop .k * c .before .before .args .stride < length (now (c .before .before .args .input))
 within c = strided _ _ _ _ _ (c .loop-test .taken) (c .before .before .pre .0)
-
--- the output is as long as it was
-long : (c : tie.At-loop Inv-loop μ-loop) → length (c .loop .output) ≡ length (now (c .before .args .output))
-long c = ap length (c .loop .inv .1) ∙ length-run _ _ _ _ (omega arith)
 
 mul-output : tie.Need-mul-output Inv-loop μ-loop
 mul-output c = omega (arith, within c)
@@ -56,7 +50,7 @@ mul-output-3 c = omega arith
 -- sizes: end
 
 slice-write-output : tie.Need-slice-write-output Inv-loop μ-loop
-slice-write-output c = omega (arith, long (c .before .before))
+slice-write-output c = omega (arith, written-length (c .before .before .loop .inv .1))
 
 add-k : tie.Need-add-k Inv-loop μ-loop
 add-k c = omega arith
@@ -65,15 +59,15 @@ loop-less : tie.Need-loop-less Inv-loop μ-loop
 loop-less c = omega arith
 
 loop-again : tie.Need-loop-again Inv-loop μ-loop
-loop-again c = (omega arith, rw (c .before .before .loop .inv .1) (over-more _ _ _ _ 0 (omega arith)))
+loop-again c = (omega arith, written-next (c .before .before .loop .inv .1) _ _ (omega arith) refl refl)
 
 same-length : tie.Need-same-length Inv-loop μ-loop
-same-length c = long (c .before)
+same-length c = written-length (c .before .loop .inv .1)
 
 returns : tie.Need-returns Inv-loop μ-loop
 returns c =
     let e : c .before .loop .k ≡ c .before .before .args .count = omega arith in
-    rw e at (c .before .loop .inv .1)
+    rw e at (c .before .loop .inv .1 .is)
 
 pub gather-spec : {M : Type 1} → statement M
 gather-spec =

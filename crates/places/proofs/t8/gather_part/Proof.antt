@@ -1,31 +1,29 @@
 -- `places::t8::gather_part` meets its contract. The loop's invariant: the first o runs of the part stand in their places.
 -- Assumes nothing.
-use mathlib.Core.Path.{_≡_, refl, sym, ap, _∙_}
+use mathlib.Core.Path.{_≡_}
 use Prim.Native.Nat.{ℕ, _+_, _-_, _*_, _≤_, _<_}
 use native.Mathlib.Nat.{zero-mul}
 use native.Mathlib.Omega.{arith}
 use denote.Ref.{now}
 use lib.ListN.{length, getD}
 use borrow.Author.Needs.{needs}
-use Rattle.places.specs.Places.{order}
-use Rattle.places.specs.Tab.{tab, over}
 use Rattle.places.specs.Transposes.{walk}
-use Rattle.places.proofs.Tabs.{over-none, length-run}
-use Rattle.places.proofs.Walks.{Run, run, run-more}
+use Rattle.places.proofs.Tabs.{Written, written-none, written-length}
+use Rattle.places.proofs.Walks.{Run, run, run-more, part-room}
 use Rattle.places.proofs.t8.gather_part.Statement.{statement}
 use Rattle.places.proofs.t8.gather_part.Tie as tie
 
 abbrev Inv-loop : tie.InvT-loop
 Inv-loop input output₀ parts count part o₀ output o =
-    (o ≤ 8)
-    × (output ≡ over (part * 8 * count) (tab (o * count) (λ i. getD input (walk parts count (part * 8 * count + i)) 0)) output₀)
-    × (length output ≡ length output₀)
+    (o ≤ 8) × Written (part * 8 * count) (o * count) (λ i. getD input (walk parts count (part * 8 * count + i)) 0) output₀ output
 
 abbrev μ-loop : tie.MeasureT-loop
 μ-loop input output₀ parts count part o₀ output o = 8 - o
 
 loop-holds : tie.Need-loop-holds Inv-loop μ-loop
-loop-holds c = (search needs, rw zero-mul (over-none _ _ _), refl)
+loop-holds c =
+    let pre = c .before .before .pre in
+    (search needs, rw zero-mul (written-none (omega (arith, part-room _ _ (pre .0) _ (pre .1 .1 .1)))))
 
 -- what the walk's arithmetic says of the run that a turn copies
 here : (c : tie.After-order Inv-loop μ-loop)
@@ -59,7 +57,7 @@ gather-requires : tie.Need-gather-requires Inv-loop μ-loop
 gather-requires c κs =
     let h = here (c .before) in
     let pre = c .before .before .before .before .before .before .pre in
-    (rw (pre .1 .0) (h .inside), omega arith)
+    (rw (pre .1 .0) (h .inside), omega (arith, written-length (c .before .before .before .loop .inv .1)))
 
 add-o : tie.Need-add-o Inv-loop μ-loop
 add-o c = omega arith
@@ -69,25 +67,22 @@ loop-less c = omega arith
 
 loop-again : tie.Need-loop-again Inv-loop μ-loop
 loop-again c =
-    let done = c .before .before .gather in
     let at-order = c .before .before .before .before in
     let at-loop = at-order .before .before in
     let at-start = at-loop .before .before .before in
-    let pre = at-start .pre in (
+    let before = at-loop .loop .inv .1 in (
       omega arith,
-      done .ensures
-          ∙ rw (at-loop .loop .inv .1)
-          (run-more _ _ (pre .0) (now (at-start .args .input)) (now (at-start .args .output)) _ _ _ (pre .1 .1 .1) (at-order .before .loop-test .taken) (at-order .order .ensures) (pre .1 .1 .0)),
-      done .kept .1 .1 .1 .0 ∙ at-loop .loop .inv .2,
+      run-more _ _ (at-start .pre .0) (now (at-start .args .input)) _ _ _ (at-start .pre .1 .1 .1) (at-order .before .loop-test .taken) (at-order .order .ensures)
+          before (record { room = omega (arith, here at-order, written-length before); is = c .before .before .gather .ensures }),
     )
 
 same-length : tie.Need-same-length Inv-loop μ-loop
-same-length c = c .before .loop .inv .2
+same-length c = written-length (c .before .loop .inv .1)
 
 returns : tie.Need-returns Inv-loop μ-loop
 returns c =
     let e : c .before .loop .o ≡ 8 = omega arith in
-    rw e at (c .before .loop .inv .1)
+    rw e at (c .before .loop .inv .1 .is)
 
 pub gather-part-spec : {M : Type 1} → statement M
 gather-part-spec =

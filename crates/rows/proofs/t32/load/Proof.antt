@@ -1,0 +1,94 @@
+-- `rows::t32::load` meets its contract. The loop's invariant: the first l values are read.
+-- Assumes nothing.
+use mathlib.Core.Path.{_≡_, refl, sym, _∙_}
+use Prim.Native.Nat.{ℕ, _+_, _-_, _≤_, _<_, zero-le}
+use native.Mathlib.Nat.{zero-add}
+use native.Mathlib.Omega.{arith}
+use denote.Ref.{now}
+use lib.ListN.{length, getD}
+use borrow.Author.Needs.{needs}
+use Rattle.places.specs.Sizes.{t32, lanes}
+use Rattle.places.specs.Tab.{tab, tabFrom}
+use Rattle.places.proofs.Tabs.{Written, written-none, written-next, written-all}
+use Rattle.rows.specs.Rows.{splatOf}
+use Rattle.rows.proofs.Rows.{load-short, load-room}
+use Rattle.rows.proofs.t32.load.Statement.{statement}
+use Rattle.rows.proofs.t32.load.Tie as tie
+
+abbrev Inv-loop : tie.InvT-loop
+Inv-loop source a x₀ l₀ x l = (l ≤ lanes t32) × (length x₀ ≡ lanes t32) × Written 0 l (λ l. getD source (a + l) 0) x₀ x
+
+abbrev μ-loop : tie.MeasureT-loop
+μ-loop source a x₀ l₀ x l = lanes t32 - l
+
+returns : tie.Need-returns Inv-loop μ-loop
+unfolding splatOf tab tabFrom
+returns c = load-short t32 (now (c .before .args .source)) (c .before .args .a) (omega arith)
+
+sub-if2 : tie.Need-sub-if2 Inv-loop μ-loop
+sub-if2 c = omega arith
+
+returns-2 : tie.Need-returns-2 Inv-loop μ-loop
+unfolding splatOf tab tabFrom
+returns-2 c = load-short t32 (now (c .before .before .args .source)) (c .before .before .args .a) (omega arith)
+
+loop-holds : tie.Need-loop-holds Inv-loop μ-loop
+loop-holds c = (search needs, refl, written-none zero-le)
+
+add-x : tie.Need-add-x Inv-loop μ-loop
+add-x c = omega arith
+
+-- sizes: not at t8
+mul-x : tie.Need-mul-x Inv-loop μ-loop
+mul-x c = omega arith
+
+-- sizes: end
+
+shared-slice-read-x : tie.Need-shared-slice-read-x Inv-loop μ-loop
+shared-slice-read-x c = omega arith
+
+-- sizes: not at t8
+mul-x-2 : tie.Need-mul-x-2 Inv-loop μ-loop
+mul-x-2 c = omega arith
+
+-- sizes: end
+
+array-write-x : tie.Need-array-write-x Inv-loop μ-loop
+array-write-x c = omega arith
+
+add-l : tie.Need-add-l Inv-loop μ-loop
+add-l c = omega arith
+
+loop-less : tie.Need-loop-less Inv-loop μ-loop
+loop-less c = omega arith
+
+loop-again : tie.Need-loop-again Inv-loop μ-loop
+loop-again c =
+    let inv = c .before .before .loop .inv in
+    (omega arith, inv .1, written-next (inv .2) _ _ (omega arith) (sym (zero-add _)) refl)
+
+returns-3 : tie.Need-returns-3 Inv-loop μ-loop
+returns-3 c =
+    let inv = c .before .loop .inv in
+    let args = c .before .before .before .before .args in
+    written-all (inv .2) (lanes t32) (omega arith) (inv .1) ∙ load-room t32 (now (args .source)) (args .a) (omega arith)
+
+pub load-spec : {M : Type 1} → statement M
+load-spec =
+    tie.close
+    (tie.spec
+    Inv-loop
+    μ-loop
+    returns
+    sub-if2
+    returns-2
+    loop-holds
+    add-x
+    mul-x
+    shared-slice-read-x
+    mul-x-2
+    array-write-x
+    add-l
+    loop-less
+    loop-again
+    returns-3)

@@ -1,0 +1,43 @@
+-- The operations on a row: LANES values that stand side by side in a block, as one value. Each has its plain arithmetical meaning for every
+-- input, place by place.
+-- Assumes nothing.
+use mathlib.Core.List.{List}
+use Prim.Native.Nat.{ℕ, _+_, _-_, _*_, _/_, _%_, _^_}
+use lib.Bits.{bitOr}
+use lib.Dec.{leb}
+use lib.ListN.{length, getD}
+use Rattle.places.specs.Pick.{pick}
+use Rattle.places.specs.Sizes.{lanes}
+use Rattle.places.specs.Tab.{tab, over}
+
+-- one value in every lane
+unfoldable pub splatOf : ℕ → ℕ → List ℕ
+splatOf t v = tab (lanes t) (λ _. v)
+
+-- the LANES values of the source from place a on, or zeros where the source ends before them
+unfoldable pub loadOf : ℕ → List ℕ → ℕ → List ℕ
+loadOf t source a =
+    pick (leb (a + lanes t) (length source)) (tab (lanes t) (λ l. getD source (a + l) 0)) (splatOf t 0)
+
+-- the list with the row written over it from place p on, or as it was where the row does not fit
+unfoldable pub storeOf : List ℕ → ℕ → List ℕ → List ℕ
+storeOf out p x = pick (leb (p + length x) (length out)) (over p x out) out
+
+-- each value divided by 2^s
+unfoldable pub shrOf : ℕ → List ℕ → ℕ → List ℕ
+shrOf t x s = tab (lanes t) (λ l. getD x l 0 / 2 ^ s)
+
+-- each value of x, with the bits set that its neighbour in y, times 2^s, has below 2^t
+unfoldable pub orShlOf : ℕ → List ℕ → List ℕ → ℕ → List ℕ
+orShlOf t x y s = tab (lanes t) (λ l. bitOr (getD x l 0) (getD y l 0 * 2 ^ s % 2 ^ t))
+
+-- each value modulo 2^w
+unfoldable pub maskOf : ℕ → List ℕ → ℕ → List ℕ
+maskOf t x w = tab (lanes t) (λ l. getD x l 0 % 2 ^ w)
+
+-- sums and differences modulo 2^t
+unfoldable pub addOf : ℕ → List ℕ → List ℕ → List ℕ
+addOf t x y = tab (lanes t) (λ l. (getD x l 0 + getD y l 0) % 2 ^ t)
+
+unfoldable pub subOf : ℕ → List ℕ → List ℕ → List ℕ
+subOf t x y = tab (lanes t) (λ l. (getD x l 0 + (2 ^ t - getD y l 0)) % 2 ^ t)

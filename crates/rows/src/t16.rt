@@ -1,0 +1,126 @@
+// Rows of u16 values.
+ghost use mathlib.Core.Path.{_≡_};
+ghost use Rattle.places.specs.Sizes.{t16};
+ghost use Rattle.rows.specs.Rows.{splatOf, loadOf, storeOf, shrOf, orShlOf, maskOf, addOf, subOf};
+
+const T: u8 = 16;
+
+const LANES: usize = 64;
+
+// One value in every lane.
+pub fn splat(v: u16) -> [u16; LANES]
+    ensures { λ r. ⌜ r ≡ splatOf t16 v ⌝ }
+{
+    [v; LANES]
+}
+
+// The LANES values of source from place a on; zeros where source ends before them.
+pub fn load(source: &[u16], a: usize) -> [u16; LANES]
+    ensures { λ r. ⌜ r ≡ loadOf t16 (now (source .entry)) a ⌝ }
+{
+    let mut x = [0u16; LANES];
+    if source.len() < LANES {
+        return x;
+    }
+    if source.len() - LANES < a {
+        return x;
+    }
+    let mut l = 0;
+    while l < LANES {
+        x[l] = source[a + l];
+        l += 1;
+    }
+    x
+}
+
+// Writes the row over out from place p on; nothing where it does not fit.
+pub fn store(out: &mut [u16], p: usize, x: [u16; LANES])
+    ensures { λ _. ⌜ now (out .exit) ≡ storeOf (now (out .entry)) p x ⌝ }
+{
+    if out.len() < LANES {
+        return;
+    }
+    if out.len() - LANES < p {
+        return;
+    }
+    let mut l = 0;
+    while l < LANES {
+        out[p + l] = x[l];
+        l += 1;
+    }
+}
+
+// Each value divided by 2^s.
+pub fn shr(x: [u16; LANES], s: u8) -> [u16; LANES]
+    ensures { λ r. ⌜ r ≡ shrOf t16 x s ⌝ }
+{
+    if T <= s {
+        return [0u16; LANES];
+    }
+    let mut y = x;
+    let mut l = 0;
+    while l < LANES {
+        y[l] = y[l] >> s;
+        l += 1;
+    }
+    y
+}
+
+// Each value of x, with the bits set that its neighbour in y, times 2^s, has below 2^T.
+pub fn or_shl(x: [u16; LANES], y: [u16; LANES], s: u8) -> [u16; LANES]
+    ensures { λ r. ⌜ r ≡ orShlOf t16 x y s ⌝ }
+{
+    if T <= s {
+        return x;
+    }
+    let mut z = x;
+    let mut l = 0;
+    while l < LANES {
+        z[l] = z[l] | (y[l] << s);
+        l += 1;
+    }
+    z
+}
+
+// Each value modulo 2^w.
+pub fn mask(x: [u16; LANES], w: u8) -> [u16; LANES]
+    ensures { λ r. ⌜ r ≡ maskOf t16 x w ⌝ }
+{
+    if T <= w {
+        return x;
+    }
+    let m = 1u16 << w;
+    let mut y = x;
+    let mut l = 0;
+    while l < LANES {
+        y[l] = y[l] % m;
+        l += 1;
+    }
+    y
+}
+
+// Sums modulo 2^T.
+pub fn wrapping_add(x: [u16; LANES], y: [u16; LANES]) -> [u16; LANES]
+    ensures { λ r. ⌜ r ≡ addOf t16 x y ⌝ }
+{
+    let mut z = x;
+    let mut l = 0;
+    while l < LANES {
+        z[l] = std::num::wrapping_add_u16(z[l], y[l]);
+        l += 1;
+    }
+    z
+}
+
+// Differences modulo 2^T.
+pub fn wrapping_sub(x: [u16; LANES], y: [u16; LANES]) -> [u16; LANES]
+    ensures { λ r. ⌜ r ≡ subOf t16 x y ⌝ }
+{
+    let mut z = x;
+    let mut l = 0;
+    while l < LANES {
+        z[l] = std::num::wrapping_sub_u16(z[l], y[l]);
+        l += 1;
+    }
+    z
+}
