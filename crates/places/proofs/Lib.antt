@@ -1,4 +1,6 @@
+pub mod Answers
 pub mod Every
 pub mod Places
+pub mod Search
 pub mod Tabs
 pub mod Walks

@@ -4,6 +4,8 @@
 use mathlib.Core.Path.{_≡_, refl, sym, ap, _∙_, subst, subst₂, subst⁻¹}
 use mathlib.Core.Logic.{⊎-elim, inl, inr}
 use Prim.Native.Nat.{ℕ, _+_, _*_, _/_, _%_, _<_}
+use native.Mathlib.Nat.{add-zero}
+use native.Mathlib.Omega.{arith}
 use lib.Arith.{digits-lt, digits-div, digits-mod}
 use Rattle.places.specs.Sizes.{t8, t16, t32, t64, Size, lanes}
 use Rattle.places.specs.Places.{order, place, lane, row, source, target}
@@ -35,6 +37,10 @@ size-lanes s = each (λ t. t * lanes t ≡ 1024) refl refl refl refl s
 pub order-order : (n : ℕ) → n < 8 → order (order n) ≡ n
 unfolding order
 order-order = same 8 (λ n. order (order n)) (λ n. n) tt
+
+pub order-lt : (n : ℕ) → n < 8 → order n < 8
+unfolding order
+order-lt = below 8 order (λ _. 8) tt
 
 -- lane and row of a place are in range, and the place formula takes them back to it
 
@@ -112,3 +118,19 @@ target-lt = below 1024 target (λ _. 1024) tt
 -- no two places have one source
 pub one-source : (i k : ℕ) → i < 1024 → k < 1024 → source i ≡ source k → i ≡ k
 one-source i k hi hk e = sym (target-source i hi) ∙ ap target e ∙ target-source k hk
+
+-- where a row starts, and where it stands in its eight rows
+
+pub place-lane : (r l : ℕ) → place r l ≡ place r 0 + l
+unfolding place
+place-lane r l = omega arith
+
+pub row-start : (o i : ℕ) → i < 8 → place (o * 8 + i) 0 ≡ order o * 16 + i * 128
+unfolding place
+row-start o i h =
+    let q : (o * 8 + i) / 8 ≡ o = omega arith in
+    let r : (o * 8 + i) % 8 ≡ i = omega arith in
+    rw (q, r, add-zero)
+
+pub row-within : (o i : ℕ) → o < 8 → i < 8 → place (o % 8 * 8 + i % 8) 0 ≡ place (o * 8 + i) 0
+row-within o i ho hi = ap (λ r. place r 0) (omega arith)

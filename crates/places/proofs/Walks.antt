@@ -13,13 +13,9 @@ use Rattle.places.specs.declared.Answer.the-variants.{Done, Block}
 use Rattle.places.specs.Places.{order, source, target}
 use Rattle.places.specs.Tab.{tab}
 use Rattle.places.specs.Transposes.{transposeOf, untransposeOf, blocksAnswer, walk}
-use Rattle.places.proofs.Every.{same, below}
-use Rattle.places.proofs.Places.{source-target, target-source, source-lt, target-lt}
+use Rattle.places.proofs.Every.{same}
+use Rattle.places.proofs.Places.{order-lt, source-target, target-source, source-lt, target-lt}
 use Rattle.places.proofs.Tabs.{getD-tab, is-tab, tab-ext, Written, written-ext, written-run}
-
-pub order-lt : (n : ℕ) → n < 8 → order n < 8
-unfolding order
-order-lt = below 8 order (λ _. 8) tt
 
 left-factor : (a b : ℕ) → a * b ≡ 128 → a ≤ 128
 left-factor a zero e = let z : a * zero ≡ zero = mul-zero a in omega arith

@@ -1,9 +1,13 @@
 -- What a call answers: the table of document 01, "Numbers given back".
 -- Assumes nothing.
 use mathlib.Core.List.{List}
+use mathlib.Core.Bool.{Bool}
 use Prim.Native.Nat.{ℕ}
+use lib.Dec.{eqb}
+use lib.ListN.{length}
 use Rattle.places.specs.declared.Answer.{Answer}
 use Rattle.places.specs.declared.Answer.the-variants.{Done, Width, Block, Packed, Base, Lists, Index, Entry}
+use Rattle.places.specs.Pick.{pick}
 
 -- the number of the table
 abbrev pub numberOf : Answer → ℕ
@@ -26,6 +30,15 @@ placeOf Base = 0
 placeOf Lists = 0
 placeOf (Index p) = p
 placeOf (Entry p) = p
+
+-- One line of a call's tests: where the test holds what follows decides, and otherwise this refusal is given. A call's tests stand in the
+-- order of their numbers, so the lowest number that applies is the one that is given.
+abbrev pub unless : Bool → Answer → Answer → Answer
+unless test refusal rest = pick test rest refusal
+
+-- the list has n entries
+abbrev pub long : ℕ → List ℕ → Bool
+long n l = eqb (length l) n
 
 -- What a lent buffer holds after a call: where the call is done what it should hold, and after a refusal what it held.
 abbrev pub left : {A : Type 0} → Answer → A → A → A

@@ -11,3 +11,8 @@ pick false a b = b
 abbrev pub both : Bool → Bool → Bool
 both true b = b
 both false b = false
+
+-- one of the two tests holds
+abbrev pub either : Bool → Bool → Bool
+either true b = true
+either false b = b

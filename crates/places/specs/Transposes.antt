@@ -3,12 +3,11 @@
 -- Assumes nothing.
 use mathlib.Core.List.{List}
 use Prim.Native.Nat.{ℕ, _+_, _*_, _/_, _%_}
-use lib.Dec.{eqb}
-use lib.ListN.{length, getD}
+use lib.ListN.{getD}
 use Rattle.places.specs.declared.Answer.{Answer}
 use Rattle.places.specs.declared.Answer.the-variants.{Done, Block}
-use Rattle.places.specs.Answers.{left}
-use Rattle.places.specs.Pick.{pick, both}
+use Rattle.places.specs.Answers.{unless, long, left}
+use Rattle.places.specs.Pick.{both}
 use Rattle.places.specs.Places.{order, source, target}
 use Rattle.places.specs.Tab.{tab}
 
@@ -22,7 +21,7 @@ untransposeOf v = tab 1024 (λ j. getD v (target j) 0)
 
 -- 2 exactly when one of the two blocks is not 1,024 long
 unfoldable pub blocksAnswer : List ℕ → List ℕ → Answer
-blocksAnswer input output = pick (both (eqb (length input) 1024) (eqb (length output) 1024)) Done Block
+blocksAnswer input output = unless (both (long 1024 input) (long 1024 output)) Block Done
 
 unfoldable pub transposeLeaves : List ℕ → List ℕ → List ℕ
 transposeLeaves input output = left (blocksAnswer input output) (transposeOf input) output

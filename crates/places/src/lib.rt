@@ -3,12 +3,14 @@
 // From the crate's src/lib.rs (the order list, T and LANES), src/transpose.rs, the function index of
 // src/macros.rs, and the two tables of src/bitpacking.rs. What is the same at all four element sizes
 // stands here; each size has a module of its own.
+
 pub mod t16;
 pub mod t32;
 pub mod t64;
 pub mod t8;
 
 ghost use mathlib.Core.Path.{_≡_};
+ghost use Prim.Native.Nat.{_+_, _*_, _%_};
 ghost use Rattle.places.specs.Answers.{numberOf, placeOf};
 ghost use Rattle.places.specs.Places as Places;
 
@@ -86,4 +88,11 @@ pub fn order(n: usize) -> usize
         7 => 7,
         _ => 0,
     }
+}
+
+// The place where row i of the o-th eight rows starts, in lane 0: both counted from 0, and both modulo 8.
+pub fn row_start(o: usize, i: usize) -> usize
+    ensures { λ r. ⌜ r ≡ Places.place (o % 8 * 8 + i % 8) 0 ⌝ }
+{
+    order(o % 8) * 16 + i % 8 * 128
 }

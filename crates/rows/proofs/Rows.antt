@@ -1,6 +1,6 @@
 -- What the row operations give where a shift or a width is T or more, and what wrapping subtraction gives, over the element size.
 -- Assumes nothing.
-use mathlib.Core.Path.{_≡_, refl, sym, ap, _∙_}
+use mathlib.Core.Path.{_≡_, refl, sym, ap, ap₂, _∙_}
 use mathlib.Core.List.{List}
 use Prim.Native.Nat.{ℕ, zero, _+_, _-_, _*_, _/_, _%_, _^_, _≤_, _<_}
 use native.Mathlib.Nat.{lt-of-lt-of-le, div-eq-of-lt, mod-eq-of-lt, one-mul, mul-assoc, mul-mod-left, mod-add-mod, add-mod-right}
@@ -12,7 +12,7 @@ use borrow.Author.Tests.{le-leb, lt-leb}
 use Rattle.places.specs.Sizes.{lanes}
 use Rattle.places.specs.Tab.{tab, over}
 use Rattle.places.proofs.Tabs.{is-tab, tab-ext, getD-tab, length-tab}
-use Rattle.rows.specs.Rows.{splatOf, loadOf, storeOf, shrOf, orShlOf, maskOf}
+use Rattle.rows.specs.Rows.{splatOf, loadOf, storeOf, shrOf, orShlOf, maskOf, addOf, subOf}
 
 -- a value of t bits has nothing at bit s ≥ t and above
 pub shifted-out : (t s x : ℕ) → x < 2 ^ t → t ≤ s → x / 2 ^ s ≡ 0
@@ -53,18 +53,43 @@ sub-wraps n a b r hb hr e =
 
 -- a load and a store by the test of their room
 
-pub load-short : (t : ℕ) (source : List ℕ) (a : ℕ) → length source < a + lanes t → splatOf t 0 ≡ loadOf t source a
+pub load-short : (t : ℕ) (source : List ℕ) → length source < lanes t → splatOf t 0 ≡ loadOf t source
 unfolding loadOf
-load-short t source a h = simp (lt-leb (a + lanes t) (length source) h)
+load-short t source h = simp (lt-leb (lanes t) (length source) h)
 
-pub load-room : (t : ℕ) (source : List ℕ) (a : ℕ) → a + lanes t ≤ length source → tab (lanes t) (λ l. getD source (a + l) 0) ≡ loadOf t source a
+pub load-room : (t : ℕ) (source : List ℕ) → lanes t ≤ length source → tab (lanes t) (λ l. getD source l 0) ≡ loadOf t source
 unfolding loadOf
-load-room t source a h = simp (le-leb (a + lanes t) (length source) h)
+load-room t source h = simp (le-leb (lanes t) (length source) h)
 
-pub store-short : (out : List ℕ) (p : ℕ) (x : List ℕ) → length out < p + length x → out ≡ storeOf out p x
+pub store-short : (out x : List ℕ) → length out < length x → out ≡ storeOf out x
 unfolding storeOf
-store-short out p x h = simp (lt-leb (p + length x) (length out) h)
+store-short out x h = simp (lt-leb (length x) (length out) h)
 
-pub store-room : (out : List ℕ) (p : ℕ) (x : List ℕ) → p + length x ≤ length out → over p x out ≡ storeOf out p x
+pub store-room : (out x : List ℕ) → length x ≤ length out → over 0 x out ≡ storeOf out x
 unfolding storeOf
-store-room out p x h = simp (le-leb (p + length x) (length out) h)
+store-room out x h = simp (le-leb (length x) (length out) h)
+
+-- what an operation gives of rows that are given by rules
+
+module _ (t : ℕ) (f g : ℕ → ℕ) where
+  pub shr-tab : (s : ℕ) → shrOf t (tab (lanes t) f) s ≡ tab (lanes t) (λ l. f l / 2 ^ s)
+  unfolding shrOf
+  shr-tab s = tab-ext (lanes t) _ _ 0 (λ l h. ap (λ n. n / 2 ^ s) (getD-tab (lanes t) f l 0 h))
+
+  pub mask-tab : (w : ℕ) → maskOf t (tab (lanes t) f) w ≡ tab (lanes t) (λ l. f l % 2 ^ w)
+  unfolding maskOf
+  mask-tab w = tab-ext (lanes t) _ _ 0 (λ l h. ap (λ n. n % 2 ^ w) (getD-tab (lanes t) f l 0 h))
+
+  pub or-shl-tab : (s : ℕ) → orShlOf t (tab (lanes t) f) (tab (lanes t) g) s ≡ tab (lanes t) (λ l. bitOr (f l) (g l * 2 ^ s % 2 ^ t))
+  unfolding orShlOf
+  or-shl-tab s =
+      tab-ext (lanes t) _ _ 0 (λ l h. ap₂ (λ m n. bitOr m (n * 2 ^ s % 2 ^ t)) (getD-tab (lanes t) f l 0 h) (getD-tab (lanes t) g l 0 h))
+
+  pub add-tab : addOf t (tab (lanes t) f) (tab (lanes t) g) ≡ tab (lanes t) (λ l. (f l + g l) % 2 ^ t)
+  unfolding addOf
+  add-tab = tab-ext (lanes t) _ _ 0 (λ l h. ap₂ (λ m n. (m + n) % 2 ^ t) (getD-tab (lanes t) f l 0 h) (getD-tab (lanes t) g l 0 h))
+
+  pub sub-tab : subOf t (tab (lanes t) f) (tab (lanes t) g) ≡ tab (lanes t) (λ l. (f l + (2 ^ t - g l)) % 2 ^ t)
+  unfolding subOf
+  sub-tab =
+      tab-ext (lanes t) _ _ 0 (λ l h. ap₂ (λ m n. (m + (2 ^ t - n)) % 2 ^ t) (getD-tab (lanes t) f l 0 h) (getD-tab (lanes t) g l 0 h))

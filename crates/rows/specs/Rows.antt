@@ -14,14 +14,13 @@ use Rattle.places.specs.Tab.{tab, over}
 unfoldable pub splatOf : ℕ → ℕ → List ℕ
 splatOf t v = tab (lanes t) (λ _. v)
 
--- the LANES values of the source from place a on, or zeros where the source ends before them
-unfoldable pub loadOf : ℕ → List ℕ → ℕ → List ℕ
-loadOf t source a =
-    pick (leb (a + lanes t) (length source)) (tab (lanes t) (λ l. getD source (a + l) 0)) (splatOf t 0)
+-- the first LANES values of the source, or zeros where it has fewer
+unfoldable pub loadOf : ℕ → List ℕ → List ℕ
+loadOf t source = pick (leb (lanes t) (length source)) (tab (lanes t) (λ l. getD source l 0)) (splatOf t 0)
 
--- the list with the row written over it from place p on, or as it was where the row does not fit
-unfoldable pub storeOf : List ℕ → ℕ → List ℕ → List ℕ
-storeOf out p x = pick (leb (p + length x) (length out)) (over p x out) out
+-- the list with the row written over its front, or as it was where the row does not fit
+unfoldable pub storeOf : List ℕ → List ℕ → List ℕ
+storeOf out x = pick (leb (length x) (length out)) (over 0 x out) out
 
 -- each value divided by 2^s
 unfoldable pub shrOf : ℕ → List ℕ → ℕ → List ℕ

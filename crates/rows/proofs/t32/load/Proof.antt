@@ -16,27 +16,17 @@ use Rattle.rows.proofs.t32.load.Statement.{statement}
 use Rattle.rows.proofs.t32.load.Tie as tie
 
 abbrev Inv-loop : tie.InvT-loop
-Inv-loop source a x₀ l₀ x l = (l ≤ lanes t32) × (length x₀ ≡ lanes t32) × Written 0 l (λ l. getD source (a + l) 0) x₀ x
+Inv-loop source x₀ l₀ x l = (l ≤ lanes t32) × (length x₀ ≡ lanes t32) × Written 0 l (λ l. getD source l 0) x₀ x
 
 abbrev μ-loop : tie.MeasureT-loop
-μ-loop source a x₀ l₀ x l = lanes t32 - l
+μ-loop source x₀ l₀ x l = lanes t32 - l
 
 returns : tie.Need-returns Inv-loop μ-loop
 unfolding splatOf tab tabFrom
-returns c = load-short t32 (now (c .before .args .source)) (c .before .args .a) (omega arith)
-
-sub-if2 : tie.Need-sub-if2 Inv-loop μ-loop
-sub-if2 c = omega arith
-
-returns-2 : tie.Need-returns-2 Inv-loop μ-loop
-unfolding splatOf tab tabFrom
-returns-2 c = load-short t32 (now (c .before .before .args .source)) (c .before .before .args .a) (omega arith)
+returns c = load-short t32 (now (c .before .args .source)) (c .if1 .taken)
 
 loop-holds : tie.Need-loop-holds Inv-loop μ-loop
 loop-holds c = (search needs, refl, written-none zero-le)
-
-add-x : tie.Need-add-x Inv-loop μ-loop
-add-x c = omega arith
 
 -- sizes: not at t8
 mul-x : tie.Need-mul-x Inv-loop μ-loop
@@ -67,11 +57,10 @@ loop-again c =
     let inv = c .before .before .loop .inv in
     (omega arith, inv .1, written-next (inv .2) _ _ (omega arith) (sym (zero-add _)) refl)
 
-returns-3 : tie.Need-returns-3 Inv-loop μ-loop
-returns-3 c =
+returns-2 : tie.Need-returns-2 Inv-loop μ-loop
+returns-2 c =
     let inv = c .before .loop .inv in
-    let args = c .before .before .before .before .args in
-    written-all (inv .2) (lanes t32) (omega arith) (inv .1) ∙ load-room t32 (now (args .source)) (args .a) (omega arith)
+    written-all (inv .2) (lanes t32) (omega arith) (inv .1) ∙ load-room t32 (now (c .before .before .before .args .source)) (omega arith)
 
 pub load-spec : {M : Type 1} → statement M
 load-spec =
@@ -80,10 +69,7 @@ load-spec =
     Inv-loop
     μ-loop
     returns
-    sub-if2
-    returns-2
     loop-holds
-    add-x
     mul-x
     shared-slice-read-x
     mul-x-2
@@ -91,4 +77,4 @@ load-spec =
     add-l
     loop-less
     loop-again
-    returns-3)
+    returns-2)

@@ -1,0 +1,174 @@
+-- `packing::t64::pack_eight` meets its contract. The loop's invariant: after i of the eight rows, the words that are full stand in the
+-- packed block, and the others are held.
+-- Assumes nothing.
+use mathlib.Core.Path.{_≡_, sym, ap, ap₂, _∙_, subst, subst₂}
+use mathlib.Core.Logic.{⊎-elim}
+use Prim.Native.Nat.{ℕ, _+_, _-_, _*_, _/_, _%_, _≤_, _<_}
+use native.Mathlib.Nat.{add-zero, add-assoc, mul-le-mul}
+use native.Mathlib.Omega.{arith}
+use denote.Ref.{now}
+use lib.ListN.{length, getD}
+use borrow.Author.Needs.{needs}
+use Rattle.places.specs.Sizes.{t64, lanes}
+use Rattle.places.proofs.Places.{size64}
+use Rattle.rows.specs.Rows.{shrOf, orShlOf, maskOf}
+use Rattle.rows.proofs.Blocks.{start-at, start-in}
+use Rattle.packing.specs.Packed.{Filled, heldRow}
+use Rattle.packing.proofs.Turns.{word-room, first-word, masked-row, joined, filled-next, held-on, full-words, held-rest}
+use Rattle.packing.proofs.t64.pack_eight.Statement.{statement}
+use Rattle.packing.proofs.t64.pack_eight.Tie as tie
+
+abbrev Inv-loop : tie.InvT-loop
+Inv-loop width values packed₀ o held₀ i₀ packed held i =
+    (i ≤ 8) × (held ≡ heldRow t64 width values (o * 8 + i)) × Filled t64 width values ((o * 8 + i) * width / t64) packed
+
+abbrev μ-loop : tie.MeasureT-loop
+μ-loop width values packed₀ o held₀ i₀ packed held i = 8 - i
+
+loop-holds : tie.Need-loop-holds Inv-loop μ-loop
+loop-holds c = (search needs, rw add-zero (c .before .before .pre .1 .1 .1 .0), rw add-zero (c .before .before .pre .1 .1 .1 .1))
+
+-- the row of a turn is one of the block's, and the bit at which it begins is small
+row-lt : (c : tie.In-loop Inv-loop μ-loop) → c .before .before .before .before .args .o * 8 + c .before .loop .i < t64
+row-lt c = omega arith
+
+bit-le : (c : tie.In-loop Inv-loop μ-loop)
+    → (c .before .before .before .before .args .o * 8 + c .before .loop .i) * c .before .before .before .before .args .width ≤ t64 * t64
+bit-le c = mul-le-mul {n₂ = t64} {m₂ = t64} (omega arith) (omega arith)
+
+-- it lies within the values
+values-room : (c : tie.After-row-start Inv-loop μ-loop) → c .row-start .result + lanes t64 ≤ length (now (c .before .before .before .before .before .args .values))
+values-room c = omega (arith, start-in size64 _ _ _ (c .before .loop-test .taken) (row-lt (c .before)) (c .row-start .ensures))
+
+row-start-requires : tie.Need-row-start-requires Inv-loop μ-loop
+row-start-requires c κs = search needs
+
+mul-bit : tie.Need-mul-bit Inv-loop μ-loop
+mul-bit c = omega arith
+
+add-bit : tie.Need-add-bit Inv-loop μ-loop
+add-bit c = omega arith
+
+mul-bit-2 : tie.Need-mul-bit-2 Inv-loop μ-loop
+mul-bit-2 c = omega (arith, bit-le (c .before))
+
+cast-s : tie.Need-cast-s Inv-loop μ-loop
+cast-s c = omega arith
+
+row-at-requires : tie.Need-row-at-requires Inv-loop μ-loop
+row-at-requires c κs = values-room c
+
+mask-requires : tie.Need-mask-requires Inv-loop μ-loop
+mask-requires c κs = search needs
+
+or-shl-requires : tie.Need-or-shl-requires Inv-loop μ-loop
+or-shl-requires c κs = search needs
+
+add-if1 : tie.Need-add-if1 Inv-loop μ-loop
+add-if1 c = omega arith
+
+mul-put-at : tie.Need-mul-put-at Inv-loop μ-loop
+mul-put-at c = omega (arith, bit-le (c .before .before .before .before .before .before))
+
+put-at-requires : tie.Need-put-at-requires Inv-loop μ-loop
+put-at-requires c κs =
+    let in-loop = c .before .before .before .before .before .before in
+    let start = in-loop .before .before .before .before in
+    let room = word-room t64 (start .args .width) _ (first-word size64 (start .args .width) _ (row-lt in-loop) (start .pre .0 .0)) in
+    omega (arith, in-loop .before .loop .inv .2 .long)
+
+row-at-requires-2 : tie.Need-row-at-requires-2 Inv-loop μ-loop
+row-at-requires-2 c κs = values-room (c .before .before .before .before .before .before .before .before)
+
+mask-requires-2 : tie.Need-mask-requires-2 Inv-loop μ-loop
+mask-requires-2 c κs = search needs
+
+sub-shr : tie.Need-sub-shr Inv-loop μ-loop
+sub-shr c = omega arith
+
+shr-requires : tie.Need-shr-requires Inv-loop μ-loop
+shr-requires c κs = search needs
+
+add-i : tie.Need-add-i Inv-loop μ-loop
+add-i c = omega arith
+
+loop-less : tie.Need-loop-less Inv-loop μ-loop
+loop-less c = omega arith
+
+loop-again : tie.Need-loop-again Inv-loop μ-loop
+loop-again c =
+    let at-start = c .before .before .before .before in
+    let in-loop = at-start .before in
+    let at-loop = in-loop .before in
+    let start = at-loop .before .before .before in
+    let w = start .args .width in
+    let values = now (start .args .values) in
+    let i = at-loop .loop .i in
+    let r = start .args .o * 8 + i in
+    let hr : r < t64 = row-lt in-loop in
+    let pos = start .pre .0 .0 in
+    let wide : w ≤ t64 = omega arith in
+    let found = start-at size64 _ _ _ (in-loop .loop-test .taken) hr (at-start .row-start .ensures) in
+    let masked =
+    c .before .before .mask .ensures
+    ∙ ap (λ x. maskOf t64 x w) (c .before .before .before .row-at .ensures)
+    ∙ masked-row t64 w r _ values found in
+    let full : c .before .or-shl .result ≡ joined t64 w values r =
+    c .before .or-shl .ensures ∙ ap₂ (λ x y. orShlOf t64 x y (r * w % t64)) (at-loop .loop .inv .1) masked in
+    let turn : (c .if1 .held ≡ heldRow t64 w values (r + 1)) × Filled t64 w values ((r + 1) * w / t64) (c .if1 .packed) =
+    ⊎-elim
+    (λ stored.
+    let rest = held-rest size64 w r hr values wide (stored .0 .taken) in (
+      stored .9
+          ∙ stored .7 .ensures
+          ∙ ap (λ x. shrOf t64 x (t64 - r * w % t64))
+          (stored .6 .ensures ∙ ap (λ x. maskOf t64 x w) (stored .5 .ensures) ∙ masked-row t64 w r _ values found)
+          ∙ rest .0,
+      subst (λ k. Filled t64 w values k (c .if1 .packed)) (sym (rest .1))
+          (filled-next (r * w / t64) (first-word size64 w r hr pos) (at-loop .loop .inv .2)
+          (full ∙ full-words size64 w r hr values wide (stored .0 .taken))
+          (stored .8 ∙ stored .2 .ensures)),
+    ))
+    (λ on.
+    let same = held-on size64 w r hr values (on .0 .left) in
+    (on .2 ∙ full ∙ same .0, subst₂ (Filled t64 w values) (sym (same .1)) (sym (on .1)) (at-loop .loop .inv .2)))
+    (c .if1 .came) in
+    let next : start .args .o * 8 + (i + 1) ≡ r + 1 = sym (add-assoc (start .args .o * 8) i 1) in
+    (omega arith, rw next (turn .0), rw next (turn .1))
+
+same-length : tie.Need-same-length Inv-loop μ-loop
+same-length c = c .before .loop .inv .2 .long ∙ sym (c .before .before .before .before .pre .1 .1 .1 .1 .long)
+
+returns : tie.Need-returns Inv-loop μ-loop
+returns c =
+    let start = c .before .before .before .before in
+    let e : start .args .o * 8 + c .before .loop .i ≡ (start .args .o + 1) * 8 = omega arith in
+    (rw e at (c .before .loop .inv .1), rw e at (c .before .loop .inv .2))
+
+pub pack-eight-spec : {M : Type 1} → statement M
+pack-eight-spec =
+    tie.close
+    (tie.spec
+    Inv-loop
+    μ-loop
+    loop-holds
+    row-start-requires
+    mul-bit
+    add-bit
+    mul-bit-2
+    cast-s
+    row-at-requires
+    mask-requires
+    or-shl-requires
+    add-if1
+    mul-put-at
+    put-at-requires
+    row-at-requires-2
+    mask-requires-2
+    sub-shr
+    shr-requires
+    add-i
+    loop-less
+    loop-again
+    same-length
+    returns)
