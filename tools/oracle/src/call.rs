@@ -1,0 +1,139 @@
+//! The calls of the case stream: the number of each, and what each takes in its four buffers.
+//!
+//! Everything else in this program asks here what a call takes: the rules for what is refused, the
+//! making of questions, and the layout of a record. The numbers are those of the stream format and
+//! stay for good.
+
+use Role::*;
+
+/// Elements in a block of values.
+pub const BLOCK: usize = 1024;
+
+/// The element sizes, in bits.
+pub const SIZES: [u32; 4] = [8, 16, 32, 64];
+
+#[derive(Clone, Copy, PartialEq, Eq, Debug)]
+#[repr(u8)]
+pub enum Call {
+    Pack = 0,
+    Unpack = 1,
+    Single = 2,
+    List = 3,
+    Delta = 4,
+    Undelta = 5,
+    UndeltaPack = 6,
+    ForPack = 7,
+    UnforPack = 8,
+    Encode = 9,
+    Decode = 10,
+    Transpose = 11,
+    Untranspose = 12,
+    TransposeBits = 13,
+    UntransposeBits = 14,
+}
+
+/// All calls, each at its own number.
+pub const CALLS: [Call; 15] = [
+    Call::Pack,
+    Call::Unpack,
+    Call::Single,
+    Call::List,
+    Call::Delta,
+    Call::Undelta,
+    Call::UndeltaPack,
+    Call::ForPack,
+    Call::UnforPack,
+    Call::Encode,
+    Call::Decode,
+    Call::Transpose,
+    Call::Untranspose,
+    Call::TransposeBits,
+    Call::UntransposeBits,
+];
+
+/// What a buffer is to its call.
+#[derive(Clone, Copy, PartialEq, Eq, Debug)]
+pub enum Role {
+    /// The call has no such buffer.
+    Absent,
+    /// A block of 1,024 elements.
+    Block,
+    /// A block of 1,024 run numbers, each a u16.
+    RunNumbers,
+    /// Packed words, LANES for each bit of the width.
+    Packed,
+    /// A base, one element for each lane.
+    Base,
+    /// A list of places, each a u64; any length.
+    Places,
+    /// What list access writes, one element for each place of the list.
+    Outputs,
+    /// What decode looks up in; any length.
+    Dictionary,
+    /// A block of 1,024 bits, sixteen u64.
+    Bits,
+}
+
+impl Role {
+    /// Whether a buffer of this role has to have 1,024 elements.
+    pub fn is_block(self) -> bool {
+        matches!(self, Block | RunNumbers)
+    }
+
+    /// Bits in an element of a buffer of this role, in a call at size t.
+    pub fn element_bits(self, t: u32) -> u32 {
+        match self {
+            RunNumbers => 16,
+            Places | Bits => 64,
+            Absent | Block | Packed | Base | Outputs | Dictionary => t,
+        }
+    }
+}
+
+impl Call {
+    pub fn number(self) -> u8 {
+        self as u8
+    }
+
+    /// The roles of the buffers a, b, c and d. The call reads a and b, and writes c and d.
+    pub fn roles(self) -> [Role; 4] {
+        match self {
+            Call::Pack | Call::ForPack => [Block, Absent, Packed, Absent],
+            Call::Unpack | Call::UnforPack => [Packed, Absent, Block, Absent],
+            Call::Single => [Packed, Absent, Absent, Absent],
+            Call::List => [Packed, Places, Outputs, Absent],
+            Call::Delta | Call::Undelta => [Block, Base, Block, Absent],
+            Call::UndeltaPack => [Packed, Base, Block, Absent],
+            Call::Encode => [Block, Absent, Block, RunNumbers],
+            Call::Decode => [Dictionary, RunNumbers, Block, Absent],
+            Call::Transpose | Call::Untranspose => [Block, Absent, Block, Absent],
+            Call::TransposeBits | Call::UntransposeBits => [Bits, Absent, Bits, Absent],
+        }
+    }
+
+    pub fn has(self, role: Role) -> bool {
+        self.roles().contains(&role)
+    }
+
+    /// A call takes a width exactly when it has a packed buffer.
+    pub fn takes_width(self) -> bool {
+        self.has(Packed)
+    }
+
+    pub fn takes_reference(self) -> bool {
+        matches!(self, Call::ForPack | Call::UnforPack)
+    }
+
+    /// The element sizes that the call has; the untranspose of bits has one.
+    pub fn sizes(self) -> &'static [u32] {
+        match self {
+            Call::UntransposeBits => &[64],
+            _ => &SIZES,
+        }
+    }
+
+    /// The widths 0 to t, or 0 alone where the call takes none.
+    pub fn widths(self, t: u32) -> std::ops::RangeInclusive<u64> {
+        0..=if self.takes_width() { t.into() } else { 0 }
+    }
+}

@@ -1,0 +1,115 @@
+//! A case of the stream: what is asked, what is expected, and how both are written down.
+//!
+//! Elements of every size are held as u64 here, so that the making of questions and the rules stand
+//! once and not once for each size; only the judge, who asks the crate, narrows them.
+
+use crate::call::{Call, Role};
+use std::io::{self, Write};
+
+/// The most elements that a buffer of the stream may have.
+pub const LIMIT: usize = 4096;
+
+/// What a call is given.
+#[derive(Clone)]
+pub struct Question {
+    pub call: Call,
+    pub t: u32,
+    pub width: u64,
+    pub reference: u64,
+    pub index: u64,
+    /// The buffers a, b, c and d as they are at entry.
+    pub buffers: [Vec<u64>; 4],
+}
+
+/// The places of the buffers among the four.
+pub const A: usize = 0;
+pub const B: usize = 1;
+pub const C: usize = 2;
+pub const D: usize = 3;
+
+/// What the call must give back, and what c and d must hold afterwards.
+pub struct Answer {
+    pub number: u8,
+    pub place: u64,
+    pub value: u64,
+    pub c: Vec<u64>,
+    pub d: Vec<u64>,
+}
+
+/// 2^bits - 1, the greatest number of so many bits.
+pub fn top(bits: u32) -> u64 {
+    if bits == 0 {
+        0
+    } else {
+        u64::MAX >> (64 - bits)
+    }
+}
+
+impl Question {
+    pub fn lanes(&self) -> usize {
+        1024 / self.t as usize
+    }
+
+    /// Each buffer that the call has, with its role.
+    pub fn roles(&self) -> impl Iterator<Item = (Role, &Vec<u64>)> {
+        let present = self.call.roles().into_iter().zip(&self.buffers);
+        present.filter(|(role, _)| *role != Role::Absent)
+    }
+
+    /// The lengths of the buffers of one role.
+    pub fn lengths(&self, wanted: Role) -> impl Iterator<Item = usize> {
+        let held = self.roles().filter(move |(role, _)| *role == wanted);
+        held.map(|(_, buffer)| buffer.len())
+    }
+
+    /// Bits in an element of the buffer with this number.
+    pub fn element_bits(&self, buffer: usize) -> u32 {
+        self.call.roles()[buffer].element_bits(self.t)
+    }
+
+    /// Writes the record and says how many bytes it has.
+    pub fn write(&self, answer: &Answer, out: &mut impl Write) -> io::Result<u64> {
+        let mut record = self.head(answer);
+        self.elements(A, &self.buffers[A], &mut record);
+        self.elements(B, &self.buffers[B], &mut record);
+        self.elements(C, &self.buffers[C], &mut record);
+        self.elements(C, &answer.c, &mut record);
+        self.elements(D, &self.buffers[D], &mut record);
+        self.elements(D, &answer.d, &mut record);
+        out.write_all(&record)?;
+        Ok(record.len() as u64)
+    }
+
+    fn head(&self, answer: &Answer) -> Vec<u8> {
+        let width = u16::try_from(self.width).expect("a width of the stream is a u16");
+        let mut head = vec![self.call.number(), self.t as u8];
+        head.extend(width.to_le_bytes());
+        head.extend([answer.number, 0, 0, 0]);
+        for field in [answer.place, answer.value, self.reference, self.index] {
+            head.extend(field.to_le_bytes());
+        }
+        for buffer in &self.buffers {
+            assert!(
+                buffer.len() <= LIMIT,
+                "a buffer of the stream has at most {LIMIT} elements"
+            );
+            head.extend((buffer.len() as u32).to_le_bytes());
+        }
+        head
+    }
+
+    /// The elements of a buffer, each in the bytes that its role gives it.
+    fn elements(&self, buffer: usize, elements: &[u64], out: &mut Vec<u8>) {
+        let length = self.buffers[buffer].len();
+        assert_eq!(
+            elements.len(),
+            length,
+            "a call keeps the length of its buffers"
+        );
+        let bits = self.element_bits(buffer);
+        for &x in elements {
+            assert!(x <= top(bits), "{x} does not fit in {bits} bits");
+            out.extend(&x.to_le_bytes()[..bits as usize / 8]);
+        }
+    }
+}
