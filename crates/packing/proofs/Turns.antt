@@ -1,6 +1,6 @@
 -- What one turn of the walks does to rows: the laws of `Steps`, said of all lanes at once, over the element size.
 -- Assumes nothing.
-use mathlib.Core.Path.{_≡_, sym, ap, ap₂, _∙_}
+use mathlib.Core.Path.{_≡_, sym, ap, ap₂, _∙_, subst}
 use mathlib.Core.List.{List, _++_}
 use Prim.Native.Nat.{ℕ, _+_, _-_, _*_, _/_, _%_, _^_, _≤_, _<_}
 use native.Mathlib.Nat.{mul-zero, mul-suc, mul-comm, mul-le-mul-left, le-of-eq, mod-lt, mod-eq-of-lt, div-add-mod'}
@@ -196,6 +196,29 @@ module _ {t : ℕ} (size : Size t) (w r : ℕ) (hr : r < t) (values : List ℕ) 
           (λ l _. sym (write-rest t w r (r * w / t) (r * w % t) (begins t w r) s-less (part w values l) (parts-small l) hr wide full)),
       over-word t w r (r * w / t) (r * w % t) (begins t w r) s-less wide full,
     )
+
+-- One turn of the walk: row r joins the words that are held, and where they are full they go to the packed block.
+module _ {t : ℕ} (size : Size t) (w r : ℕ) (hr : r < t) (values : List ℕ) (wide : w ≤ t) {before packed full row : List ℕ}
+    (eh : before ≡ heldRow t w values r)
+    (er : row ≡ tab (lanes t) (λ l. part w values l r))
+    (ef : full ≡ orShlOf t before row (r * w % t))
+    (filled : Filled t w values (r * w / t) packed) where
+  is-joined : full ≡ joined t w values r
+  is-joined = ef ∙ ap₂ (λ x y. orShlOf t x y (r * w % t)) eh er
+
+  pub turn-on : r * w % t + w < t → (full ≡ heldRow t w values (r + 1)) × Filled t w values ((r + 1) * w / t) packed
+  turn-on less =
+      let same = held-on size w r hr values less in
+      (is-joined ∙ same .0, subst (λ k. Filled t w values k packed) (sym (same .1)) filled)
+
+  pub turn-stored : 0 < w → t ≤ r * w % t + w → {rest z : List ℕ} → rest ≡ shrOf t row (t - r * w % t) → z ≡ over (lanes t * (r * w / t)) full packed
+      → (rest ≡ heldRow t w values (r + 1)) × Filled t w values ((r + 1) * w / t) z
+  turn-stored pos over {rest} {z} es ez =
+      let left = held-rest size w r hr values wide over in (
+        es ∙ ap (λ x. shrOf t x (t - r * w % t)) er ∙ left .0,
+        subst (λ k. Filled t w values k z) (sym (left .1))
+            (filled-next (r * w / t) (first-word size w r hr pos) filled (is-joined ∙ full-words size w r hr values wide over) ez),
+      )
 
 -- before the first row nothing is held
 pub held-none : (t w : ℕ) (values : List ℕ) → splatOf t 0 ≡ heldRow t w values 0

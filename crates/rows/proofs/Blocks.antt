@@ -77,6 +77,20 @@ pub length-rows : (t a n : ℕ) (f : ℕ → ℕ) (x : List ℕ) → length (row
 unfolding rowsOver
 length-rows t a n f x = length-tab 1024 _
 
+-- two rules that agree on the rows that are rewritten give one block
+pub rows-agree : (t a n : ℕ) (f g : ℕ → ℕ) (x : List ℕ) → ((p : ℕ) → p < 1024 → a ≤ row t p → row t p < a + n → f p ≡ g p)
+    → rowsOver t a n f x ≡ rowsOver t a n g x
+rows-agree t a n f g x same =
+    ext-getD 0 (rowsOver t a n f x) (rowsOver t a n g x) (length-rows t a n f x ∙ sym (length-rows t a n g x))
+    (λ p b.
+    let h : p < 1024 = omega (arith, length-rows t a n f x) in
+    by-lt (row t p) a
+    (λ l. rows-before t a n f x p h l ∙ sym (rows-before t a n g x p h l))
+    (λ l.
+    by-lt (row t p) (a + n)
+    (λ k. rows-in t a n f x p h l k ∙ same p h l k ∙ sym (rows-in t a n g x p h l k))
+    (λ k. rows-after t a n f x p h k ∙ sym (rows-after t a n g x p h k))))
+
 -- The law behind every walk over a block: y is x with its n rows from row a on rewritten by the rule f.
 pub record Rewritten (t a n : ℕ) (f : ℕ → ℕ) (x y : List ℕ) : Type 0 where
   pub long : length x ≡ 1024
