@@ -1,9 +1,10 @@
 // Replays a case stream: reads it on standard input, makes each call through the public functions, compares
 // everything that the call leaves with what the stream expects, and prints how many cases differ. The format of
-// the stream and of what is printed is CASES.md of the project.
+// the stream and of what is printed is docs/CASES.md.
 //
 // Here stand the loop over the cases and the way of one case. Of the modules, wire reads the stream; t8, t16, t32
-// and t64 make the calls, with narrow's help; outcome compares; and tally counts and prints.
+// and t64 make the calls, with the help of narrow, indices and bit_block; outcome compares; and tally counts and prints.
+mod bit_block;
 mod indices;
 mod narrow;
 mod outcome;
@@ -14,6 +15,8 @@ mod t8;
 mod tally;
 mod wire;
 
+use bit_block::bits_at_front;
+use bit_block::put_bits;
 use outcome::Reply;
 use outcome::Step;
 use outcome::judge;
@@ -116,8 +119,12 @@ fn case(head: Head) -> Step {
     judge(head, reply, &c, &c_exit, &d, &d_exit)
 }
 
-// The call, at the size of its elements.
+// The call, at the size of its elements. The inverse of the bit transpose is there for one size only.
 fn call(head: Head, a: &Wide, b: &Wide, c: &mut Wide, d: &mut Wide) -> Reply {
+    let op = head.op;
+    if op == 14 {
+        return untranspose_bits(head, a, c);
+    }
     let t = head.t;
     match t {
         8 => t8::call(head, a, b, c, d),
@@ -125,5 +132,21 @@ fn call(head: Head, a: &Wide, b: &Wide, c: &mut Wide, d: &mut Wide) -> Reply {
         32 => t32::call(head, a, b, c, d),
         64 => t64::call(head, a, b, c, d),
         _ => Reply::Unknown,
+    }
+}
+
+// A bit block is sixteen numbers, no more and no fewer: a record of this call with other counts is no case.
+fn untranspose_bits(head: Head, a: &Wide, c: &mut Wide) -> Reply {
+    if head.n_a != 16 {
+        return Reply::Unknown;
+    }
+    if head.n_c != 16 {
+        return Reply::Unknown;
+    }
+    put_bits(bits::untranspose_bits(bits_at_front(a)), c);
+    Reply::Given {
+        number: 0,
+        place: 0,
+        value: 0,
     }
 }

@@ -1,0 +1,51 @@
+-- `cost::t8::sum` is safe and ends. The loop goes through the 1,024 places.
+-- Assumes nothing.
+use Prim.Native.Nat.{_-_, _≤_}
+use borrow.Author.Needs.{needs}
+use Rattle.cost.proofs.t8.sum.Statement.{statement}
+use Rattle.cost.proofs.t8.sum.Tie as tie
+
+abbrev Inv-loop : tie.InvT-loop
+Inv-loop block total₀ i₀ total i = i ≤ 1024
+
+abbrev μ-loop : tie.MeasureT-loop
+μ-loop block total₀ i₀ total i = 1024 - i
+
+loop-holds : tie.Need-loop-holds Inv-loop μ-loop
+loop-holds c = search needs
+
+element-copy-out-number-of-u8 : tie.Need-element-copy-out-number-of-u8 Inv-loop μ-loop
+element-copy-out-number-of-u8 c = search needs
+
+number-of-u8-requires : tie.Need-number-of-u8-requires Inv-loop μ-loop
+number-of-u8-requires c κs = search needs
+
+plus-requires : tie.Need-plus-requires Inv-loop μ-loop
+plus-requires c κs = search needs
+
+add-i : tie.Need-add-i Inv-loop μ-loop
+add-i c = search needs
+
+loop-less : tie.Need-loop-less Inv-loop μ-loop
+loop-less c = search needs
+
+loop-again : tie.Need-loop-again Inv-loop μ-loop
+loop-again c = search needs
+
+returns : tie.Need-returns Inv-loop μ-loop
+returns c = search needs
+
+pub sum-spec : {M : Type 1} → statement M
+sum-spec =
+    tie.close
+    (tie.spec
+    Inv-loop
+    μ-loop
+    loop-holds
+    element-copy-out-number-of-u8
+    number-of-u8-requires
+    plus-requires
+    add-i
+    loop-less
+    loop-again
+    returns)
