@@ -12,7 +12,7 @@ use Rattle.places.specs.Tab.{tab}
 use Rattle.packing.specs.Numbers.{digit}
 use Rattle.packing.specs.Packed.{wordsNumber, packOf, valueAt}
 
--- a plus b, and a minus b, modulo 2^t
+-- These are a plus b, and a minus b, modulo 2^t, for a and b below 2^t, as every element is.
 unfoldable pub plus : ℕ → ℕ → ℕ → ℕ
 plus t a b = (a + b) % 2 ^ t
 

@@ -102,7 +102,7 @@ module _ (t w : ℕ) (packed indices out : List ℕ) where
         ne-eqb (firstBeyond 1024 indices) (length indices) (λ z. omega arith),
       )
 
-  -- each index is looked at, or the width is 0
+  -- each index is below 1,024, or the width is 0
   pub list-good : w ≤ t → length packed ≡ lanes t * w → length out ≡ length indices → (w ≡ 0) ⊎ (firstBeyond 1024 indices ≡ length indices)
       → listAnswer t w packed indices out ≡ Done
   unfolding listAnswer

@@ -55,7 +55,7 @@ module _ (t w : ℕ) where
   unfolding valueAt
   unpack-fits packed p h = rw (unpack-at packed p h) (digit-lt w (wordsNumber t w packed (lane t p)) (row t p))
 
-  -- What a lane gives to a row is a number of w bits.
+  -- What a row gives to the number of its lane is a number of w bits.
   pub part-lt : (values : List ℕ) (l r : ℕ) → part w values l r < 2 ^ w
   unfolding part
   part-lt values l r = mod-lt (getD values (place r l) 0) (pow-pos w)
@@ -160,7 +160,7 @@ module _ {t : ℕ} (s : Size t) (w : ℕ) where
   unfolding valueAt
   value-place packed l r hl hr = rw (lane-place s r l hr hl, row-place s r l hr hl)
 
-  -- so that is what lane l of the unpacked block gives to row r
+  -- so that is what row r of the unpacked block gives to the number of lane l
   part-unpack : (packed : List ℕ) (l r : ℕ) → l < lanes t → r < t → part w (unpackOf t w packed) l r ≡ digit w (wordsNumber t w packed l) r
   unfolding part
   part-unpack packed l r hl hr =
@@ -186,7 +186,7 @@ pub width-zero-pack : (t : ℕ) (values : List ℕ) → packOf t 0 values ≡ []
 unfolding packOf tab tabFrom
 width-zero-pack t values = rw (mul-zero)
 
--- and every value is 0.
+-- A list without entries is the empty one.
 no-words : (x : List ℕ) → length x ≡ 0 → x ≡ []
 no-words [] e = refl
 no-words (a ∷ x) e = absurd (omega arith)

@@ -13,7 +13,7 @@ use Rattle.packing.specs.Numbers.{number, digit, held}
 unfoldable pub word : ℕ → List ℕ → ℕ → ℕ → ℕ
 word t packed l k = getD packed (lanes t * k + l) 0
 
--- What lane l gives to row r: its value modulo 2^w.
+-- What row r gives to the number of lane l is its value there modulo 2^w.
 unfoldable pub part : ℕ → List ℕ → ℕ → ℕ → ℕ
 part w values l r = getD values (place r l) 0 % 2 ^ w
 

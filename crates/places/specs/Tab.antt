@@ -1,4 +1,5 @@
--- A list given by a rule for its entries. Every block that a call leaves behind is said in this form, so it is one list and no other.
+-- A list given by a rule for its entries. Every block that a call leaves behind is said in this form or as such a list over
+-- another, so it is one list and no other.
 -- Assumes nothing.
 use mathlib.Core.List.{List, [], _∷_, _++_}
 use Prim.Native.Nat.{ℕ, zero, suc, _+_}

@@ -27,7 +27,7 @@ pub enum Answer {
     Base,
     // an index list and its output differ in length
     Lists,
-    // an index is 1,024 or more; the lowest such place of the list
+    // an index is 1,024 or more; the lowest such place of the list, 0 for single access
     Index(usize),
     // a dictionary index is at or beyond the dictionary's length; the lowest such place
     Entry(usize),

@@ -1,5 +1,5 @@
--- The operations on a row: LANES values that stand side by side in a block, as one value. Each has its plain arithmetical meaning for every
--- input, place by place.
+-- The operations on a row: LANES values that stand side by side in a block, as one value. Each has its plain arithmetical meaning, place by place,
+-- for every row of elements, that is of numbers below 2^t.
 -- Assumes nothing.
 use mathlib.Core.List.{List}
 use Prim.Native.Nat.{ℕ, _+_, _-_, _*_, _/_, _%_, _^_}
