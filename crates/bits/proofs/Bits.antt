@@ -18,7 +18,8 @@ use Rattle.bits.specs.Bits.{Block, bit, goesTo, comesFrom, transposeBits
 use Rattle.bits.specs.Numbers.{bitOf, byteOf}
 use Rattle.bits.specs.Steps.{turnOf}
 use Rattle.bits.proofs.Blocks.{block-bit-lt, bit-block, block-block, is-block}
-use Rattle.bits.proofs.Numbers.{bit-lt, bit-mod, bit-shr, number-lt, is-number, bit-of-number}
+use Rattle.bits.proofs.Numbers.{bit-lt, bit-mod, bit-shr, is-number, bit-of-number}
+use Rattle.places.proofs.Digits.{number-lt}
 
 -- Where a bit goes to and where it comes from are inverse to each other on 0 to 1023.
 module _ {t : ℕ} (s : Size t) where

@@ -9,10 +9,12 @@ use lib.Arith.{digits-lt, digits-div, digits-mod}
 use lib.ListN.{getD}
 use Rattle.places.proofs.Tabs.{getD-tab, length-tab, tab-ext, is-tab}
 use Rattle.bits.specs.Bits.{Block, bit, blockOf}
-use Rattle.bits.specs.Numbers.{bitOf, byteOf, number}
+use Rattle.bits.specs.Numbers.{bitOf, byteOf}
+use Rattle.places.specs.Numbers.{number}
 use Rattle.bits.specs.Steps.{byteAt, bytesOf, gatherOf, turnOf, gathersOf, turnsOf}
 use Rattle.bits.proofs.Gathers.{strided-lt}
-use Rattle.bits.proofs.Numbers.{bit-lt, bit-mod, bit-shr, number-lt, number-ext, bit-number, bit-of-number, is-number}
+use Rattle.bits.proofs.Numbers.{bit-lt, bit-mod, bit-shr, bit-number, bit-of-number, is-number}
+use Rattle.places.proofs.Digits.{number-lt, number-ext}
 
 -- A bit of a block is 0 or 1.
 pub block-bit-lt : (b : List ℕ) (p : ℕ) → bit b p < 2
@@ -64,7 +66,7 @@ pub byte-lt : (b : List ℕ) (n : ℕ) → byteAt b n < 256
 unfolding byteAt byteOf
 byte-lt b n = mod-lt (getD b (n / 8) 0 / 2 ^ (n % 8 * 8)) (omega arith)
 
-byte-bit : (b : List ℕ) (n j : ℕ) → j < 8 → bitOf (byteAt b n) j ≡ bit b (n * 8 + j)
+pub byte-bit : (b : List ℕ) (n j : ℕ) → j < 8 → bitOf (byteAt b n) j ≡ bit b (n * 8 + j)
 unfolding byteAt byteOf bit
 byte-bit b n j h =
     let q : n / 8 ≡ (n * 8 + j) / 64 = omega arith in

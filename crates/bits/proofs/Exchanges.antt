@@ -10,7 +10,8 @@ use lib.Pow.{pow-pos, shr-le}
 use Rattle.places.proofs.Every.{Same, Below, same, below}
 use Rattle.bits.specs.Numbers.{bitOf}
 use Rattle.bits.specs.Steps.{crossed, exchangeOf, turnOf}
-use Rattle.bits.proofs.Numbers.{bit-lt, bit-mod, bit-shr, bit-shl, bit-shl-below, bit-and, bit-xor, number-ext, is-number, bit-of-number}
+use Rattle.bits.proofs.Numbers.{bit-lt, bit-mod, bit-shr, bit-shl, bit-shl-below, bit-and, bit-xor, is-number, bit-of-number}
+use Rattle.places.proofs.Digits.{number-ext}
 
 -- Of two bits, the first cancels itself.
 cancel : (a b : ℕ) → a < 2 → b < 2 → bitXor a (bitXor a b) ≡ b

@@ -12,7 +12,8 @@ use lib.ListN.{length, getD}
 use lib.Pow.{pow-add, shl-exact}
 use Rattle.places.specs.Tab.{tab, over}
 use Rattle.places.proofs.Tabs.{Written, written-length, written-run, written-ext}
-use Rattle.bits.specs.Numbers.{byteOf, number}
+use Rattle.bits.specs.Numbers.{byteOf}
+use Rattle.places.specs.Numbers.{number}
 use Rattle.bits.specs.Steps.{byteAt}
 
 -- The bytes of one number more are written.

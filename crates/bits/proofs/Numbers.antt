@@ -9,7 +9,9 @@ use native.Mathlib.Omega.{arith}
 use lib.Arith.{digits-lt}
 use lib.Bits.{bitAnd, bitXor, and-shr, xor-shr, and-mod, xor-mod}
 use lib.Pow.{pow-pos, pow-add, mod-pow-add, mod-mod-pow, field, shr-shr, high, low, shl-shr}
-use Rattle.bits.specs.Numbers.{bitOf, number}
+use Rattle.places.specs.Numbers.{number}
+use Rattle.places.proofs.Digits.{number-lt, number-ext}
+use Rattle.bits.specs.Numbers.{bitOf}
 
 -- A bit is 0 or 1.
 pub bit-lt : (x i : ℕ) → bitOf x i < 2
@@ -52,22 +54,6 @@ bit-and x y p = ap (λ n. n % 2) (and-shr x y p) ∙ and-mod (x / 2 ^ p) (y / 2 
 pub bit-xor : (x y p : ℕ) → bitOf (bitXor x y) p ≡ bitXor (bitOf x p) (bitOf y p)
 unfolding bitOf
 bit-xor x y p = ap (λ n. n % 2) (xor-shr x y p) ∙ xor-mod (x / 2 ^ p) (y / 2 ^ p) 1
-
--- A number of n digits of b bits is below 2^(b·n).
-pow-more : (b n : ℕ) → 2 ^ (b * suc n) ≡ 2 ^ b * 2 ^ (b * n)
-pow-more b n = ap (λ k. 2 ^ k) (mul-suc b n ∙ add-comm (b * n) b) ∙ pow-add 2 b (b * n)
-
-pub number-lt : (b : ℕ) (f : ℕ → ℕ) (n : ℕ) → ((k : ℕ) → k < n → f k < 2 ^ b) → number b f n < 2 ^ (b * n)
-unfolding number
-number-lt b f zero h = pow-pos (b * zero)
-number-lt b f (suc n) h =
-    rw (pow-more, add-comm (number b f n)) (digits-lt (h n (le-refl (suc n))) (number-lt b f n (λ k l. h k (omega arith))))
-
--- Two rules that agree below n give one number.
-pub number-ext : (b : ℕ) (f g : ℕ → ℕ) (n : ℕ) → ((k : ℕ) → k < n → f k ≡ g k) → number b f n ≡ number b g n
-unfolding number
-number-ext b f g zero h = refl
-number-ext b f g (suc n) h = rw (number-ext b f g n (λ k l. h k (omega arith)), h n (le-refl (suc n)))
 
 -- Bit j of digit k is a bit of the number.
 pub bit-number : (b : ℕ) (f : ℕ → ℕ) (n : ℕ) → ((k : ℕ) → k < n → f k < 2 ^ b) → (k j : ℕ) → k < n → j < b

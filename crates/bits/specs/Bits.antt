@@ -7,7 +7,8 @@ use lib.ListN.{length, getD}
 use Rattle.places.specs.Places.{place, lane, row}
 use Rattle.places.specs.Sizes.{t64}
 use Rattle.places.specs.Tab.{tab}
-use Rattle.bits.specs.Numbers.{bitOf, number}
+use Rattle.bits.specs.Numbers.{bitOf}
+use Rattle.places.specs.Numbers.{number}
 
 -- A bit block is sixteen numbers below 2^64. An array [u64; 16] is always one.
 pub record Block (b : List ℕ) : Type 0 where
@@ -18,7 +19,7 @@ pub record Block (b : List ℕ) : Type 0 where
 unfoldable pub bit : List ℕ → ℕ → ℕ
 bit b p = bitOf (getD b (p / 64) 0) (p % 64)
 
--- The block whose bit p is f p, for each p below 1,024. That it is the only such block is a law.
+-- This is the block whose bit p is f p, for each p below 1,024, where f gives only 0 and 1. That there is no other such block is a law.
 unfoldable pub blockOf : (ℕ → ℕ) → List ℕ
 blockOf f = tab 16 (λ k. number 1 (λ i. f (k * 64 + i)) 64)
 

@@ -1,5 +1,5 @@
--- What the steps of the two calls give: the bytes of a block, eight of them gathered, the exchange of bits under a mask, the 8 by 8 step, and
--- the walks over sixteen words.
+-- What the private steps of the two calls give, which no public contract names: the bytes of a block, eight of them gathered, the exchange of
+-- bits under a mask, the 8 by 8 step, and the walks over sixteen words.
 -- Assumes nothing.
 use mathlib.Core.List.{List}
 use Prim.Native.Nat.{ℕ, _+_, _-_, _*_, _/_, _%_, _^_}
@@ -7,16 +7,18 @@ use lib.ListN.{getD}
 use Rattle.places.specs.Places.{order}
 use Rattle.places.specs.Sizes.{lanes}
 use Rattle.places.specs.Tab.{tab}
-use Rattle.bits.specs.Numbers.{bitOf, byteOf, number}
+use Rattle.bits.specs.Numbers.{bitOf, byteOf}
+use Rattle.places.specs.Numbers.{number}
 
--- Byte n of a block, and all of its 128 bytes.
+-- A block has 128 bytes, of which this is byte n.
 unfoldable pub byteAt : List ℕ → ℕ → ℕ
 byteAt b n = byteOf (getD b (n / 8) 0) (n % 8)
 
+-- These are the 128 bytes of a block.
 unfoldable pub bytesOf : List ℕ → List ℕ
 bytesOf b = tab 128 (byteAt b)
 
--- The eight bytes from `start` on that stand `step` apart, as one number.
+-- These are the eight bytes from `start` on that stand `step` apart, as one number.
 unfoldable pub gatherOf : List ℕ → ℕ → ℕ → ℕ
 gatherOf bytes start step = number 8 (λ i. getD bytes (start + i * step) 0) 8
 
@@ -25,6 +27,7 @@ gatherOf bytes start step = number 8 (λ i. getD bytes (start + i * step) 0) 8
 unfoldable pub crossed : ℕ → ℕ → ℕ → ℕ
 crossed m k p = p + bitOf m p * k - bitOf (m * 2 ^ k) p * k
 
+-- So the exchange gives this.
 unfoldable pub exchangeOf : ℕ → ℕ → ℕ → ℕ
 exchangeOf x m k = number 1 (λ p. bitOf x (crossed m k p)) 64
 
@@ -32,10 +35,11 @@ exchangeOf x m k = number 1 (λ p. bitOf x (crossed m k p)) 64
 unfoldable pub turnOf : ℕ → ℕ
 turnOf x = number 1 (λ p. bitOf x (p % 8 * 8 + p / 8)) 64
 
--- A walk gathers sixteen words from the bytes of a block, word k from `start k` on. The second kind also turns each of them.
+-- A walk gathers sixteen words from the bytes of a block, word k from `start k` on.
 unfoldable pub gathersOf : (ℕ → ℕ) → ℕ → List ℕ → List ℕ
 gathersOf start step b = tab 16 (λ k. gatherOf (bytesOf b) (start k) step)
 
+-- This walk also turns each of them.
 unfoldable pub turnsOf : (ℕ → ℕ) → ℕ → List ℕ → List ℕ
 turnsOf start step b = tab 16 (λ k. turnOf (gatherOf (bytesOf b) (start k) step))
 

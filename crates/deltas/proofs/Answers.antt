@@ -8,8 +8,6 @@ use borrow.Author.Tests.{le-leb, lt-leb, eq-eqb, ne-eqb}
 use Rattle.places.specs.declared.Answer.the-variants.{Done, Width, Block, Packed, Base}
 use Rattle.places.specs.Answers.{left}
 use Rattle.places.specs.Sizes.{lanes}
-use Rattle.packing.specs.Calls.{packLeaves, unpackLeaves}
-use Rattle.packing.specs.Packed.{packOf, unpackOf}
 use Rattle.packing.proofs.Answers.{good-block}
 use Rattle.deltas.specs.Calls.{deltaAnswer, deltaLeaves, undeltaLeaves, undeltaPackAnswer, undeltaPackLeaves, forPackLeaves, unforPackLeaves}
 use Rattle.deltas.specs.Deltas.{deltaOf, undeltaOf, undeltaPackOf, forPackOf, unforPackOf}
@@ -77,14 +75,6 @@ module _ (t w : ℕ) (packed base values : List ℕ) where
 -- a width, a block of values and a packed block: for_pack and unfor_pack make the tests of pack and unpack
 
 module _ (t w : ℕ) (values packed : List ℕ) (h : w ≤ t) (ev : length values ≡ 1024) (ep : length packed ≡ lanes t * w) where
-  pub pack-leaves : packLeaves t w values packed ≡ packOf t w values
-  unfolding packLeaves
-  pack-leaves = ap (λ a. left a (packOf t w values) packed) (good-block t w values packed h ev ep)
-
-  pub unpack-leaves : unpackLeaves t w packed values ≡ unpackOf t w packed
-  unfolding unpackLeaves
-  unpack-leaves = ap (λ a. left a (unpackOf t w packed) values) (good-block t w values packed h ev ep)
-
   pub for-pack-leaves : (reference : ℕ) → forPackLeaves t w values reference packed ≡ forPackOf t w values reference
   unfolding forPackLeaves
   for-pack-leaves reference = ap (λ a. left a (forPackOf t w values reference) packed) (good-block t w values packed h ev ep)

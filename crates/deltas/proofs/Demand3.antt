@@ -24,18 +24,15 @@ use Rattle.places.specs.Tab.{tab}
 use Rattle.places.proofs.Places.{lane-lt, row-lt}
 use Rattle.places.proofs.Tabs.{getD-tab, length-tab, tab-ext}
 use Rattle.packing.specs.Calls.{blockAnswer, packLeaves, unpackLeaves}
-use Rattle.packing.specs.Numbers.{digit}
+use Rattle.places.specs.Numbers.{digit, plus, minus}
 use Rattle.packing.specs.Packed.{wordsNumber, packOf, unpackOf}
 use Rattle.packing.proofs.Answers.{good-block}
+use Rattle.packing.proofs.Accesses.{pack-leaves, unpack-leaves}
 use Rattle.packing.proofs.Rounds.{length-pack, length-unpack, unpack-at, unpack-pack, restores}
 use Rattle.deltas.specs.Calls.{deltaAnswer, deltaLeaves, undeltaLeaves, undeltaPackAnswer, undeltaPackLeaves, forPackLeaves, unforPackLeaves}
-use Rattle.deltas.specs.Deltas.{plus, minus, before, deltaOf, undeltaOf, undeltaPackOf, frameOf, forPackOf, unforPackOf}
-use Rattle.deltas.proofs.Answers.{delta-good, delta-leaves, undelta-leaves, unpack-good, undelta-pack-leaves, pack-leaves, unpack-leaves, for-pack-leaves, unfor-pack-leaves}
-use Rattle.deltas.proofs.Lanes.{Values, plus-minus, minus-only, minus-additive, summed-ext, values-unpack, length-delta, length-undelta, length-for-pack, rows-ext, undelta-at, unpack-row, summed-delta, delta-summed, before-lt, before-sum, summed-sum}
-
--- Two lists of n numbers are summed place by place, modulo 2^t.
-abbrev pub sumOf : ℕ → ℕ → List ℕ → List ℕ → List ℕ
-sumOf t n x y = tab n (λ i. plus t (getD x i 0) (getD y i 0))
+use Rattle.deltas.specs.Deltas.{before, deltaOf, undeltaOf, undeltaPackOf, frameOf, forPackOf, unforPackOf, sumOf, Values}
+use Rattle.deltas.proofs.Answers.{delta-good, delta-leaves, undelta-leaves, unpack-good, undelta-pack-leaves, for-pack-leaves, unfor-pack-leaves}
+use Rattle.deltas.proofs.Lanes.{plus-minus, minus-only, minus-additive, summed-ext, values-unpack, length-delta, length-undelta, length-for-pack, rows-ext, undelta-at, unpack-row, summed-delta, delta-summed, before-lt, before-sum, summed-sum}
 
 sum-at : (t n : ℕ) (x y : List ℕ) (i : ℕ) → i < n → getD (sumOf t n x y) i 0 ≡ plus t (getD x i 0) (getD y i 0)
 sum-at t n x y i h = getD-tab n (λ i. plus t (getD x i 0) (getD y i 0)) i 0 h
@@ -94,7 +91,7 @@ unfolding unforPackOf
 unfor-pack-is t w packed reference = tab-ext 1024 _ _ 0 (λ p h. ap (λ n. plus t n reference) (sym (unpack-at t w packed p h)))
 
 -- what comes back from a frame: the difference, cut to w bits, plus the reference
-frame-back : {t : ℕ} → Size t → (w : ℕ) (v : List ℕ) (reference p : ℕ) → p < 1024
+pub frame-back : {t : ℕ} → Size t → (w : ℕ) (v : List ℕ) (reference p : ℕ) → p < 1024
     → getD (unforPackOf t w (forPackOf t w v reference) reference) p 0 ≡ plus t (minus t (getD v p 0) reference % 2 ^ w) reference
 unfolding forPackOf frameOf
 frame-back {t} s w v reference p h =

@@ -21,15 +21,11 @@ use Rattle.places.specs.Tab.{tab}
 use Rattle.places.proofs.Places.{place-row-lane, lane-lt, row-lt, lane-place, row-place, place-lt}
 use Rattle.places.proofs.Tabs.{getD-tab, length-tab, tab-ext}
 use Rattle.rows.proofs.Rows.{sub-wraps}
-use Rattle.packing.specs.Numbers.{digit}
+use Rattle.places.specs.Numbers.{digit, plus, minus}
 use Rattle.packing.specs.Packed.{wordsNumber, unpackOf}
 use Rattle.packing.proofs.Rounds.{length-pack, length-unpack, unpack-at, unpack-fits, value-place}
 use Rattle.packing.proofs.Turns.{size-pos}
-use Rattle.deltas.specs.Deltas.{plus, minus, before, deltaOf, summed, undeltaOf, frameOf, forPackOf}
-
--- The numbers of a list are numbers of t bits.
-abbrev pub Values : ℕ → List ℕ → Type 0
-Values t v = (i : ℕ) → getD v i 0 < 2 ^ t
+use Rattle.deltas.specs.Deltas.{before, deltaOf, summed, undeltaOf, frameOf, forPackOf, Values}
 
 -- ---- sums and differences modulo 2^t
 

@@ -13,21 +13,13 @@ use Rattle.places.specs.Tab.{tab, over}
 use Rattle.places.proofs.Places.{each, place-lane, lane-place, row-place, lane-lt, place-lt}
 use Rattle.places.proofs.Tabs.{getD-tab, tab-ext, tab-getD}
 use Rattle.rows.specs.Blocks.{rowsOver}
-use Rattle.rows.specs.Rows.{loadOf, addOf, subOf}
+use Rattle.rows.specs.Rows.{loadOf, addOf}
 use Rattle.rows.proofs.Blocks.{start-room, rows-after, rows-agree, Rewritten, rewritten-next}
-use Rattle.rows.proofs.Rows.{load-room, add-tab, sub-tab}
+use Rattle.rows.proofs.Rows.{load-room, add-tab}
 use Rattle.packing.specs.Packed.{part}
-use Rattle.deltas.specs.Deltas.{plus, minus, summed, sumTo, sumRow, sumAt, undeltaOf, frameOf}
-
--- sums and differences of rows
-
-pub plus-rows : (t : ℕ) (f g : ℕ → ℕ) → addOf t (tab (lanes t) f) (tab (lanes t) g) ≡ tab (lanes t) (λ l. plus t (f l) (g l))
-unfolding plus
-plus-rows t f g = add-tab t f g
-
-pub minus-rows : (t : ℕ) (f g : ℕ → ℕ) → subOf t (tab (lanes t) f) (tab (lanes t) g) ≡ tab (lanes t) (λ l. minus t (f l) (g l))
-unfolding minus
-minus-rows t f g = sub-tab t f g
+use Rattle.deltas.specs.Deltas.{summed, undeltaOf, frameOf}
+use Rattle.places.specs.Numbers.{plus, minus}
+use Rattle.deltas.specs.Walks.{sumTo, sumRow, sumAt}
 
 -- the row of values that stands from a row's start on
 pub values-at : (t r start : ℕ) (v : List ℕ) → start ≡ place r 0
@@ -99,7 +91,7 @@ module _ {t : ℕ} (s : Size t) (v b : List ℕ) (a i : ℕ) (h : a + i < t) whe
       → (next ≡ sumRow t v b a (i + 1)) × (next ≡ tab (lanes t) (λ l. sumAt t v b a (place (a + i) l)))
   unfolding sumRow
   sum-turn er ep en =
-      let sums = en ∙ ap₂ (addOf t) er ep ∙ plus-rows t _ _ in (
+      let sums = en ∙ ap₂ (addOf t) er ep ∙ add-tab t _ _ in (
         sums ∙ tab-ext (lanes t) _ _ 0 (λ l _. sym (sum-next t _ (getD b l 0) i)),
         sums ∙ tab-ext (lanes t) _ _ 0 (λ l hl. sym (sum-place l hl ∙ sum-next t _ (getD b l 0) i)),
       )

@@ -1,6 +1,5 @@
 pub mod Accesses
 pub mod Answers
-pub mod Digits
 pub mod Rounds
 pub mod Steps
 pub mod Turns

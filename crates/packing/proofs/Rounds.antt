@@ -16,13 +16,9 @@ use Rattle.places.specs.Sizes.{Size, lanes}
 use Rattle.places.specs.Tab.{tab, tabFrom}
 use Rattle.places.proofs.Places.{each, size-lanes, place-row-lane, lane-lt, row-lt, lane-place, row-place, place-lt}
 use Rattle.places.proofs.Tabs.{getD-tab, length-tab, tab-ext, is-tab}
-use Rattle.packing.specs.Numbers.{digit}
-use Rattle.packing.specs.Packed.{word, part, wordsNumber, valuesNumber, wordAt, packOf, valueAt, unpackOf}
-use Rattle.packing.proofs.Digits.{number-lt, number-ext, digit-lt, digit-number, number-digits}
-
--- Each of the words of a packed block is a number of t bits.
-abbrev pub Words : ℕ → ℕ → List ℕ → Type 0
-Words t w x = (i : ℕ) → i < lanes t * w → getD x i 0 < 2 ^ t
+use Rattle.places.specs.Numbers.{digit}
+use Rattle.packing.specs.Packed.{word, part, wordsNumber, valuesNumber, wordAt, packOf, valueAt, unpackOf, Words}
+use Rattle.places.proofs.Digits.{number-lt, number-ext, digit-lt, digit-number, number-digits}
 
 module _ (t w : ℕ) where
   -- A packed block has w words for each lane.

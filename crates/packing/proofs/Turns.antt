@@ -17,10 +17,11 @@ use Rattle.places.proofs.Places.{each, place-lane}
 use Rattle.places.proofs.Tabs.{length-tab, tab-ext, tab-append, length-over}
 use Rattle.rows.specs.Rows.{splatOf, shrOf, orShlOf, maskOf}
 use Rattle.rows.proofs.Rows.{shr-tab, mask-tab, or-shl-tab}
-use Rattle.packing.specs.Numbers.{digit, held}
-use Rattle.packing.specs.Packed.{word, part, wordsNumber, valuesNumber, wordAt, packOf, heldRow, Filled, valueAt}
-use Rattle.packing.proofs.Digits.{digit-number}
-use Rattle.packing.proofs.Rounds.{Words, word-fits, value-place, digit-words, part-lt}
+use Rattle.places.specs.Numbers.{digit}
+use Rattle.packing.specs.Walks.{held, heldRow, Filled}
+use Rattle.packing.specs.Packed.{word, part, wordsNumber, valuesNumber, wordAt, packOf, valueAt, Words}
+use Rattle.places.proofs.Digits.{digit-number}
+use Rattle.packing.proofs.Rounds.{word-fits, value-place, digit-words, part-lt}
 use Rattle.packing.proofs.Steps.{word-lt, second-lt, on-word, over-word, read-one, read-two, held-zero, write-on, write-word, write-rest}
 
 pub size-pos : {t : ℕ} → Size t → 0 < t

@@ -1,3 +1,7 @@
 pub mod Calls
-pub mod Numbers
 pub mod Packed
+pub mod Walks
+pub mod t16
+pub mod t32
+pub mod t64
+pub mod t8

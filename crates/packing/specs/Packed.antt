@@ -1,13 +1,12 @@
 -- The packed layout (document 01, "The packed layout"), over the element size t and the width w.
 -- Assumes nothing.
-use mathlib.Core.Path.{_≡_}
 use mathlib.Core.List.{List}
-use Prim.Native.Nat.{ℕ, _*_, _+_, _/_, _%_, _^_}
-use lib.ListN.{length, getD, take}
+use Prim.Native.Nat.{ℕ, _*_, _+_, _/_, _%_, _^_, _<_}
+use lib.ListN.{getD}
+use Rattle.places.specs.Numbers.{number, digit}
 use Rattle.places.specs.Places.{place, lane, row}
 use Rattle.places.specs.Sizes.{lanes}
 use Rattle.places.specs.Tab.{tab}
-use Rattle.packing.specs.Numbers.{number, digit, held}
 
 -- Word k of lane l stands at LANES·k + l of the packed block.
 unfoldable pub word : ℕ → List ℕ → ℕ → ℕ → ℕ
@@ -17,34 +16,31 @@ word t packed l k = getD packed (lanes t * k + l) 0
 unfoldable pub part : ℕ → List ℕ → ℕ → ℕ → ℕ
 part w values l r = getD values (place r l) 0 % 2 ^ w
 
--- The number of lane l on the packed side: its w words as digits of t bits.
+-- On the packed side the number of lane l has the lane's w words as digits of t bits.
 unfoldable pub wordsNumber : ℕ → ℕ → List ℕ → ℕ → ℕ
 wordsNumber t w packed l = number t (word t packed l) w
 
--- The number of lane l on the values' side: its t values modulo 2^w as digits of w bits.
+-- On the values' side the number of lane l has the lane's t values modulo 2^w as digits of w bits.
 unfoldable pub valuesNumber : ℕ → ℕ → List ℕ → ℕ → ℕ
 valuesNumber t w values l = number w (part w values l) t
 
--- The packed block: the words whose number is, in each lane, the values' number.
+-- In the packed block the words of each lane, as digits of t bits, make the values' number. Entry i is word i / LANES of lane i mod LANES.
 unfoldable pub wordAt : ℕ → ℕ → List ℕ → ℕ → ℕ
 wordAt t w values i = digit t (valuesNumber t w values (i % lanes t)) (i / lanes t)
 
+-- The packed block has LANES · w words.
 unfoldable pub packOf : ℕ → ℕ → List ℕ → List ℕ
 packOf t w values = tab (lanes t * w) (wordAt t w values)
 
--- The rows of words in front of word k hold the packed block's words.
-pub record Filled (t w : ℕ) (values : List ℕ) (k : ℕ) (packed : List ℕ) : Type 0 where
-  pub long : length packed ≡ lanes t * w
-  pub front : take (lanes t * k) packed ≡ tab (lanes t * k) (wordAt t w values)
-
--- What the lanes hold, after r rows, of the words that are not full yet.
-unfoldable pub heldRow : ℕ → ℕ → List ℕ → ℕ → List ℕ
-heldRow t w values r = tab (lanes t) (λ l. held t w (part w values l) r)
-
--- The value at place p: the digit that the number of the lane holds at the row.
+-- The value at place p is the digit that the number of its lane holds at its row.
 unfoldable pub valueAt : ℕ → ℕ → List ℕ → ℕ → ℕ
 valueAt t w packed p = digit w (wordsNumber t w packed (lane t p)) (row t p)
 
--- The unpacked block.
+-- The unpacked block has the value of each of the 1,024 places.
 unfoldable pub unpackOf : ℕ → ℕ → List ℕ → List ℕ
 unpackOf t w packed = tab 1024 (valueAt t w packed)
+
+-- Each of the LANES · w words of a packed block is a number of t bits, as every element is. The laws about words that were not made by
+-- packing ask for this; of a slice of elements the prover knows it.
+abbrev pub Words : ℕ → ℕ → List ℕ → Type 0
+Words t w packed = (i : ℕ) → i < lanes t * w → getD packed i 0 < 2 ^ t

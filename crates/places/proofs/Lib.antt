@@ -1,4 +1,5 @@
 pub mod Answers
+pub mod Digits
 pub mod Every
 pub mod Places
 pub mod Search

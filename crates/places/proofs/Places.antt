@@ -89,7 +89,7 @@ module _ {t : ℕ} (s : Size t) (r l : ℕ) (hr : r < t) (hl : l < lanes t) wher
       (below 1024 (λ k. place (k / lanes t) (k % lanes t)) (λ _. 1024)
       (each (λ t. Below 1024 (λ k. place (k / lanes t) (k % lanes t)) (λ _. 1024)) tt tt tt tt s))
 
--- so each place has exactly one lane and one row
+-- so no place has two lanes or two rows
 pub one-place : {t : ℕ} → Size t → (r l r′ l′ : ℕ) → r < t → l < lanes t → r′ < t → l′ < lanes t
     → place r l ≡ place r′ l′ → (r ≡ r′) × (l ≡ l′)
 one-place {t} s r l r′ l′ hr hl hr′ hl′ e = (

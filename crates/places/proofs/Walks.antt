@@ -12,7 +12,8 @@ use borrow.Author.Tests.{eq-eqb, ne-eqb}
 use Rattle.places.specs.declared.Answer.the-variants.{Done, Block}
 use Rattle.places.specs.Places.{order, source, target}
 use Rattle.places.specs.Tab.{tab}
-use Rattle.places.specs.Transposes.{transposeOf, untransposeOf, blocksAnswer, walk}
+use Rattle.places.specs.Transposes.{transposeOf, untransposeOf, blocksAnswer}
+use Rattle.places.specs.Walks.{walk}
 use Rattle.places.proofs.Every.{same}
 use Rattle.places.proofs.Places.{order-lt, source-target, target-source, source-lt, target-lt}
 use Rattle.places.proofs.Tabs.{getD-tab, is-tab, tab-ext, Written, written-ext, written-run}

@@ -9,7 +9,7 @@ use Rattle.places.specs.declared.Answer.{Answer}
 use Rattle.places.specs.declared.Answer.the-variants.{Done, Width, Block, Packed, Base, Lists, Index, Entry}
 use Rattle.places.specs.Pick.{pick}
 
--- the number of the table
+-- Each case of an answer has a number of the table.
 abbrev pub numberOf : Answer → ℕ
 numberOf Done = 0
 numberOf Width = 1
@@ -20,7 +20,7 @@ numberOf Lists = 5
 numberOf (Index p) = 6
 numberOf (Entry p) = 7
 
--- the place that is returned with it
+-- With the number a place is returned. It is 0 for every number but 6 and 7, which carry theirs.
 abbrev pub placeOf : Answer → ℕ
 placeOf Done = 0
 placeOf Width = 0
@@ -31,22 +31,19 @@ placeOf Lists = 0
 placeOf (Index p) = p
 placeOf (Entry p) = p
 
--- One line of a call's tests: where the test holds what follows decides, and otherwise this refusal is given. A call's tests stand in the
--- order of their numbers, so the lowest number that applies is the one that is given.
+-- This is one line of a call's tests: where the test holds what follows decides, and otherwise this refusal is given. A call's tests stand
+-- in the order of their numbers, so the lowest number that applies is the one that is given.
 abbrev pub unless : Bool → Answer → Answer → Answer
 unless test refusal rest = pick test rest refusal
 
--- the list has n entries
+-- This test says that the list has n entries.
 abbrev pub long : ℕ → List ℕ → Bool
 long n l = eqb (length l) n
 
--- What a lent buffer holds after a call: where the call is done what it should hold, and after a refusal what it held.
+-- This test says that the call is done, which is number 0.
+abbrev pub isDone : Answer → Bool
+isDone a = eqb (numberOf a) 0
+
+-- This is what a lent buffer holds after a call: where the call is done what it should hold, and after a refusal what it held.
 abbrev pub left : {A : Type 0} → Answer → A → A → A
-left Done new old = new
-left Width new old = old
-left Block new old = old
-left Packed new old = old
-left Base new old = old
-left Lists new old = old
-left (Index p) new old = old
-left (Entry p) new old = old
+left a new old = pick (isDone a) new old

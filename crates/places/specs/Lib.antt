@@ -1,8 +1,9 @@
 pub mod Answers
+pub mod Numbers
 pub mod Pick
 pub mod Places
 pub mod Search
 pub mod Sizes
-pub mod Spots
 pub mod Tab
 pub mod Transposes
+pub mod Walks

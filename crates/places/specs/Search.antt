@@ -1,11 +1,11 @@
--- The lowest place of a list that holds a number at or beyond a limit.
+-- The search for the lowest place of a list that holds a number at or beyond a limit (document 01, numbers 6 and 7).
 -- Assumes nothing.
 use mathlib.Core.List.{List, [], _∷_}
 use Prim.Native.Nat.{ℕ, suc}
 use lib.Dec.{ltb}
 use Rattle.places.specs.Pick.{pick}
 
--- the lowest place whose number is n or more; the list's length where there is none
+-- This is the lowest place whose number is n or more, and the list's length where there is none.
 unfoldable pub firstBeyond : ℕ → List ℕ → ℕ
 firstBeyond n [] = 0
 firstBeyond n (x ∷ xs) = pick (ltb x n) (suc (firstBeyond n xs)) 0

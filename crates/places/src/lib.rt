@@ -67,12 +67,6 @@ impl Answer {
     }
 }
 
-// Where a place of a block stands, or that there is no such place.
-pub enum Spot {
-    At { lane: usize, row: usize },
-    Outside,
-}
-
 // The order list. A match costs one load, and an array would be built anew at each use.
 pub fn order(n: usize) -> usize
     ensures { λ r. ⌜ r ≡ Places.order n ⌝ }

@@ -6,7 +6,7 @@ use lib.ListN.{getD}
 use Rattle.replay.specs.declared.wire.Head.{Head}
 use Rattle.replay.specs.Little.{little}
 
--- the head that the bytes l hold
+-- The bytes l hold this head.
 abbrev pub headOf : List ℕ → Head
 headOf l = record {
   op = getD l 0 0;

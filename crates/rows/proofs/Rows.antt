@@ -12,6 +12,7 @@ use borrow.Author.Tests.{le-leb, lt-leb}
 use Rattle.places.specs.Sizes.{lanes}
 use Rattle.places.specs.Tab.{tab, over}
 use Rattle.places.proofs.Tabs.{is-tab, tab-ext, getD-tab, length-tab}
+use Rattle.places.specs.Numbers.{plus, minus}
 use Rattle.rows.specs.Rows.{splatOf, loadOf, storeOf, shrOf, orShlOf, maskOf, addOf, subOf}
 
 -- a value of t bits has nothing at bit s ≥ t and above
@@ -85,11 +86,10 @@ module _ (t : ℕ) (f g : ℕ → ℕ) where
   or-shl-tab s =
       tab-ext (lanes t) _ _ 0 (λ l h. ap₂ (λ m n. bitOr m (n * 2 ^ s % 2 ^ t)) (getD-tab (lanes t) f l 0 h) (getD-tab (lanes t) g l 0 h))
 
-  pub add-tab : addOf t (tab (lanes t) f) (tab (lanes t) g) ≡ tab (lanes t) (λ l. (f l + g l) % 2 ^ t)
+  pub add-tab : addOf t (tab (lanes t) f) (tab (lanes t) g) ≡ tab (lanes t) (λ l. plus t (f l) (g l))
   unfolding addOf
-  add-tab = tab-ext (lanes t) _ _ 0 (λ l h. ap₂ (λ m n. (m + n) % 2 ^ t) (getD-tab (lanes t) f l 0 h) (getD-tab (lanes t) g l 0 h))
+  add-tab = tab-ext (lanes t) _ _ 0 (λ l h. ap₂ (plus t) (getD-tab (lanes t) f l 0 h) (getD-tab (lanes t) g l 0 h))
 
-  pub sub-tab : subOf t (tab (lanes t) f) (tab (lanes t) g) ≡ tab (lanes t) (λ l. (f l + (2 ^ t - g l)) % 2 ^ t)
+  pub sub-tab : subOf t (tab (lanes t) f) (tab (lanes t) g) ≡ tab (lanes t) (λ l. minus t (f l) (g l))
   unfolding subOf
-  sub-tab =
-      tab-ext (lanes t) _ _ 0 (λ l h. ap₂ (λ m n. (m + (2 ^ t - n)) % 2 ^ t) (getD-tab (lanes t) f l 0 h) (getD-tab (lanes t) g l 0 h))
+  sub-tab = tab-ext (lanes t) _ _ 0 (λ l h. ap₂ (minus t) (getD-tab (lanes t) f l 0 h) (getD-tab (lanes t) g l 0 h))

@@ -15,12 +15,12 @@ use Rattle.places.specs.declared.Answer.the-variants.{Done}
 use Rattle.places.specs.Pick.{pick}
 use Rattle.places.specs.Search.{firstBeyond}
 use Rattle.places.specs.Tab.{tab, tabFrom, over}
-use Rattle.places.proofs.Tabs.{getD-tab, length-tab, tab-snoc, is-tab}
+use Rattle.places.proofs.Tabs.{getD-tab, length-tab, length-over, tab-snoc, is-tab}
 use Rattle.runs.specs.declared.Encoded.the-variants.{Count}
 use Rattle.runs.specs.Calls.{encodedOf, dictionaryLeaves, indicesLeaves, decodeAnswer, decodeLeaves}
 use Rattle.runs.specs.Runs.{runAt, runCount, runValues, indicesOf, dictionaryOf, decodeOf, passing, differs, changes}
 use Rattle.runs.proofs.Answers.{encode-done, decode-done}
-use Rattle.runs.proofs.Runs.{run-neighbours, run-value, run-below, values-count}
+use Rattle.runs.proofs.Runs.{run-neighbours, run-value, run-below, values-count, count-bounds}
 use Rattle.places.proofs.Search.{first-beyond-none}
 
 -- one index for each place of the block
@@ -57,6 +57,11 @@ unfolding dictionaryOf over
 dictionary-others v old =
     drop-at (runValues v) (drop (0 + length (runValues v)) old) (runCount v) (values-count v)
     ∙ ap (λ n. drop n old) (zero-add (length (runValues v)) ∙ values-count v)
+
+-- and so it is as long as it was
+pub dictionary-length : (v old : List ℕ) → length old ≡ 1024 → length (dictionaryOf v old) ≡ 1024
+unfolding dictionaryOf
+dictionary-length v old l = length-over 0 (runValues v) old (omega (arith, values-count v, count-bounds v .1)) ∙ l
 
 passing-append : (test : ℕ → Bool) (xs ys : List ℕ) → passing test (xs ++ ys) ≡ passing test xs + passing test ys
 unfolding passing
@@ -140,3 +145,16 @@ module _ (v old indices : List ℕ) (lv : length v ≡ 1024) (lo : length old �
     pub decode-encode-leaves : decodeLeaves (take (runCount v) (dictionaryLeaves v old indices)) (indicesLeaves v old indices) output ≡ v
     unfolding decodeLeaves
     decode-encode-leaves = rw (decode-encode-done, encode-dictionary, encode-indices) (decode-encode v old lv)
+
+    -- With the whole dictionary that encode left it is done too, and leaves the same.
+    pub decode-whole-done : decodeAnswer (dictionaryLeaves v old indices) (indicesLeaves v old indices) output ≡ Done
+    decode-whole-done =
+        rw (encode-dictionary, encode-indices)
+        (decode-done (dictionaryOf v old) (indicesOf v) output (indices-length v) lout
+        (first-beyond-none (length (dictionaryOf v old)) (indicesOf v) .1
+        (λ i h.
+        omega (arith, dictionary-length v old lo, count-bounds v .1, index-below v i (omega (arith, indices-length v))))))
+
+    pub decode-whole-leaves : decodeLeaves (dictionaryLeaves v old indices) (indicesLeaves v old indices) output ≡ v
+    unfolding decodeLeaves
+    decode-whole-leaves = rw (decode-whole-done, encode-dictionary, encode-indices) (decode-runs v (dictionaryOf v old) lv (dictionary-first v old))

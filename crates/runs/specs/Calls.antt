@@ -6,8 +6,9 @@ use Prim.Native.Nat.{ℕ}
 use lib.Dec.{eqb}
 use lib.ListN.{length}
 use Rattle.places.specs.declared.Answer.{Answer}
-use Rattle.places.specs.declared.Answer.the-variants.{Done, Width, Block, Packed, Base, Lists, Index, Entry}
-use Rattle.places.specs.Answers.{unless, long, left}
+use Rattle.places.specs.declared.Answer.the-variants.{Done, Block, Entry}
+use Rattle.places.specs.Answers.{unless, long, isDone, left}
+use Rattle.places.specs.Pick.{pick}
 use Rattle.places.specs.Search.{firstBeyond}
 use Rattle.runs.specs.declared.Encoded.{Encoded}
 use Rattle.runs.specs.declared.Encoded.the-variants.{Count, Refused}
@@ -25,28 +26,23 @@ countOf (Refused a) = 0
 
 -- Encode gives the count where it is done, and else the refusal.
 abbrev pub encoded : Answer → ℕ → Encoded
-encoded Done n = Count n
-encoded Width n = Refused Width
-encoded Block n = Refused Block
-encoded Packed n = Refused Packed
-encoded Base n = Refused Base
-encoded Lists n = Refused Lists
-encoded (Index p) n = Refused (Index p)
-encoded (Entry p) n = Refused (Entry p)
+encoded a n = pick (isDone a) (Count n) (Refused a)
 
 -- Encode tests that its three buffers are blocks.
 unfoldable pub encodeAnswer : List ℕ → List ℕ → List ℕ → Answer
 encodeAnswer values dictionary indices =
     unless (long 1024 values) Block (unless (long 1024 dictionary) Block (unless (long 1024 indices) Block Done))
 
+-- Encode gives this.
 unfoldable pub encodedOf : List ℕ → List ℕ → List ℕ → Encoded
 encodedOf values dictionary indices = encoded (encodeAnswer values dictionary indices) (runCount values)
 
--- Encode leaves this in its dictionary, and in its indices.
+-- Encode leaves this in its dictionary.
 unfoldable pub dictionaryLeaves : List ℕ → List ℕ → List ℕ → List ℕ
 dictionaryLeaves values dictionary indices =
     left (encodeAnswer values dictionary indices) (dictionaryOf values dictionary) dictionary
 
+-- Encode leaves this in its indices.
 unfoldable pub indicesLeaves : List ℕ → List ℕ → List ℕ → List ℕ
 indicesLeaves values dictionary indices = left (encodeAnswer values dictionary indices) (indicesOf values) indices
 

@@ -1,9 +1,10 @@
--- The highest number of a list, by which decode's indices are tested all at once.
+-- The highest number of a list, by which decode's indices are tested all at once. The contract of a private step names it; no public contract
+-- does.
 -- Assumes nothing.
 use mathlib.Core.List.{List, [], _∷_}
 use Prim.Native.Nat.{ℕ, max}
 
--- It is 0 where the list is empty.
+-- This is the highest number of the list, and 0 where the list is empty.
 unfoldable pub highestOf : List ℕ → ℕ
 highestOf [] = 0
 highestOf (x ∷ xs) = max x (highestOf xs)

@@ -8,7 +8,7 @@ use lib.ListN.{getD}
 use Rattle.places.specs.Pick.{pick}
 use Rattle.places.specs.Tab.{tab, over}
 
--- The number of the run of place i. Place 0 is in run 0, and a later place is in the run of the place before where the two values are
+-- This is the number of the run of place i. Place 0 is in run 0, and a later place is in the run of the place before where the two values are
 -- equal, else in the next one.
 unfoldable pub runAt : List ℕ → ℕ → ℕ
 runAt v zero = 0
@@ -22,7 +22,7 @@ indicesOf v = tab 1024 (runAt v)
 unfoldable pub runCount : List ℕ → ℕ
 runCount v = runAt v 1023 + 1
 
--- The values of the runs of places 0 to i, in order: the value at place 0, and the value at each place that differs from the place before.
+-- These are the values of the runs of places 0 to i, in order: the value at place 0, and the value at each place that differs from the place before.
 unfoldable pub valuesTo : List ℕ → ℕ → List ℕ
 valuesTo v zero = getD v 0 0 ∷ []
 valuesTo v (suc i) = pick (eqb (getD v (suc i) 0) (getD v i 0)) (valuesTo v i) (valuesTo v i ++ (getD v (suc i) 0 ∷ []))
@@ -31,7 +31,7 @@ valuesTo v (suc i) = pick (eqb (getD v (suc i) 0) (getD v i 0)) (valuesTo v i) (
 unfoldable pub runValues : List ℕ → List ℕ
 runValues v = valuesTo v 1023
 
--- Encode's dictionary: the runs' values stand first, and the places after them hold what they held.
+-- In encode's dictionary the runs' values stand first, and the places after them hold what they held.
 unfoldable pub dictionaryOf : List ℕ → List ℕ → List ℕ
 dictionaryOf v old = over 0 (runValues v) old
 
@@ -44,7 +44,7 @@ unfoldable pub passing : (ℕ → Bool) → List ℕ → ℕ
 passing test [] = 0
 passing test (x ∷ xs) = pick (test x) 1 0 + passing test xs
 
--- The test that the value at place p differs from the one at the place before.
+-- This test says that the value at place p differs from the one at the place before.
 abbrev pub differs : List ℕ → ℕ → Bool
 differs v p = not (eqb (getD v p 0) (getD v (p - 1) 0))
 

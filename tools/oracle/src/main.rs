@@ -24,7 +24,7 @@ use sink::Sink;
 use std::process::exit;
 
 const USAGE: &str = "\
-usage: oracle sweep             every call at every size and width, and the edges
+usage: oracle sweep [SEED]      every call at every size and width, and the edges
        oracle mixed SEED COUNT  so many random cases; the same seed gives the same bytes
        oracle sample            the small stream that the repository keeps
        oracle selfcheck         the crate's answers and panics against document 01
@@ -47,10 +47,8 @@ fn main() {
     let words: Vec<&str> = wanted.words.iter().map(String::as_str).collect();
     let mut sink = Sink::new();
     match words[..] {
-        ["sweep"] => wanted
-            .calls
-            .iter()
-            .for_each(|&call| sweep::sweep(call, &mut sink)),
+        ["sweep"] => sweep_all(&wanted.calls, sweep::SEED, &mut sink),
+        ["sweep", seed] => sweep_all(&wanted.calls, number(seed), &mut sink),
         ["sample"] => wanted
             .calls
             .iter()
@@ -64,6 +62,12 @@ fn main() {
     sink.finish();
     if wanted.tally {
         sink.print_tally();
+    }
+}
+
+fn sweep_all(calls: &[Call], seed: u64, sink: &mut Sink) {
+    for &call in calls {
+        sweep::sweep(call, seed, sink);
     }
 }
 

@@ -1,8 +1,8 @@
 //! The mode `sweep`: every call at every size and every width, with the kinds of values that
 //! matter; every fault alone, and every set of two or more reasons at once.
 //!
-//! Each call draws from a seed of its own, so its cases are the same whichever other calls are
-//! asked for.
+//! Each call draws from a seed of its own, which comes from the sweep's seed, so its cases are the
+//! same whichever other calls are asked for.
 
 use crate::call::{BLOCK, Call, Role};
 use crate::questions::{PLAIN, Shape, accepted, faults, put, reasons};
@@ -11,8 +11,11 @@ use crate::sink::Sink;
 use crate::stream::{A, B, Question};
 use crate::values::{ENDS, KINDS, Kind};
 
-pub fn sweep(call: Call, sink: &mut Sink) {
-    let mut random = Random::new(1000 + u64::from(call.number()));
+/// The seed of a sweep that names none.
+pub const SEED: u64 = 1000;
+
+pub fn sweep(call: Call, seed: u64, sink: &mut Sink) {
+    let mut random = Random::new(seed.wrapping_add(u64::from(call.number())));
     for &t in call.sizes() {
         for width in call.widths(t) {
             every_width(call, t, width, &mut random, sink);

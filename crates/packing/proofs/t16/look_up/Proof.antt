@@ -12,10 +12,10 @@ use Rattle.places.proofs.Places.{size16, lane-lt, row-lt}
 use Rattle.places.proofs.Tabs.{getD-tab}
 use Rattle.packing.specs.declared.t16.Single.the-variants.{Value, Refused}
 use Rattle.packing.specs.Calls.{indexAnswer, single}
-use Rattle.packing.specs.Numbers.{digit}
-use Rattle.packing.specs.Packed.{word, wordsNumber, valueAt}
+use Rattle.places.specs.Numbers.{digit}
+use Rattle.packing.specs.Packed.{word, wordsNumber, valueAt, Words}
 use Rattle.packing.proofs.Answers.{index-in, index-past}
-use Rattle.packing.proofs.Rounds.{Words, value-zero, width-full-unpack}
+use Rattle.packing.proofs.Rounds.{value-zero, width-full-unpack}
 use Rattle.packing.proofs.t16.look_up.Statement.{statement}
 use Rattle.packing.proofs.t16.look_up.Tie as tie
 
@@ -23,7 +23,7 @@ beyond-requires : tie.Need-beyond-requires
 beyond-requires c κs = search needs
 
 returns : tie.Need-returns
-returns c = c .beyond .ensures ∙ index-past _ _ t16 _ _ _ (c .before .if1 .taken)
+returns c = c .beyond .ensures ∙ index-past Value Refused t16 _ _ _ (c .before .if1 .taken)
 
 element-copy-out-wide : tie.Need-element-copy-out-wide
 element-copy-out-wide c = search needs

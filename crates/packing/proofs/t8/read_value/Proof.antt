@@ -11,8 +11,7 @@ use lib.ListN.{length}
 use borrow.Author.Needs.{needs}
 use Rattle.places.specs.Sizes.{t8, lanes}
 use Rattle.places.proofs.Places.{size8}
-use Rattle.packing.specs.Packed.{word}
-use Rattle.packing.proofs.Rounds.{Words}
+use Rattle.packing.specs.Packed.{word, Words}
 use Rattle.packing.proofs.Turns.{word-room, first-word, next-word, value-one, value-two}
 use Rattle.packing.proofs.t8.read_value.Statement.{statement}
 use Rattle.packing.proofs.t8.read_value.Tie as tie

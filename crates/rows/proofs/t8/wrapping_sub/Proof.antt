@@ -10,6 +10,7 @@ use lib.ListN.{length, getD}
 use borrow.Author.Needs.{needs}
 use Rattle.places.specs.Sizes.{t8, lanes}
 use Rattle.places.proofs.Tabs.{Written, written-none, written-later, written-next, written-all}
+use Rattle.places.specs.Numbers.{minus}
 use Rattle.rows.specs.Rows.{subOf}
 use Rattle.rows.proofs.Rows.{sub-wraps}
 use Rattle.rows.proofs.t8.wrapping_sub.Statement.{statement}
@@ -57,7 +58,7 @@ loop-again c =
     )
 
 returns : tie.Need-returns Inv-loop μ-loop
-unfolding subOf
+unfolding subOf minus
 returns c = written-all (c .before .loop .inv .1) (lanes t8) (omega arith) (search needs)
 
 pub wrapping-sub-spec : {M : Type 1} → statement M

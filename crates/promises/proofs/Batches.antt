@@ -1,0 +1,59 @@
+-- Each batch entry is the single answer taken apart: its number, or its refusal (document 01, "Numbers given back"). Each law speaks of what
+-- list access and single access give and leave, for every list.
+-- Assumes nothing.
+use mathlib.Core.List.{List}
+use mathlib.Core.Logic.{_⊎_, inl, inr, ⊎-map}
+use mathlib.Core.Path.{_≡_, refl, ap}
+use Prim.Native.Nat.{ℕ, _*_, _≤_, _<_}
+use native.Mathlib.Decide.{decLe}
+use native.Mathlib.Omega.{arith}
+use lib.ListN.{length, getD}
+use Rattle.places.specs.declared.Answer.{Answer}
+use Rattle.places.specs.declared.Answer.the-variants.{Done, Index}
+use Rattle.places.specs.Answers.{numberOf, placeOf}
+use Rattle.places.specs.Search.{firstBeyond}
+use Rattle.places.specs.Sizes.{lanes}
+use Rattle.places.proofs.Search.{first-beyond-before, first-beyond-none}
+use Rattle.packing.specs.Calls.{singleAnswer, singleOf, listAnswer, listLeaves}
+use Rattle.packing.proofs.Accesses.{list-single, list-refused}
+use Rattle.promises.proofs.Numbers.{single-numbers, list-numbers}
+
+module _ (t w : ℕ) (packed indices output : List ℕ) where
+  -- Where the list is done, each entry that it leaves is the value that single access gives for its index.
+  pub batch-done : {S : Type 0} (value : ℕ → S) (refused : Answer → S) → listAnswer t w packed indices output ≡ Done
+      → (i : ℕ) → i < length indices
+      → singleOf value refused t w packed (getD indices i 0) ≡ value (getD (listLeaves t w packed indices output) i 0)
+  batch-done value refused done i h =
+      let given = list-numbers t w packed indices output 0 .0 .0 (ap numberOf done, ap placeOf done) in
+      list-single value refused t w packed (given .0) (given .1 .0) indices output (given .1 .1 .0)
+      (⊎-map (λ e. e) (first-beyond-none 1024 indices .1) (given .1 .1 .1 .0)) i h
+
+  module _ (hw : w ≤ t) (ep : length packed ≡ lanes t * w) (eo : length output ≡ length indices) where
+    -- An entry is refused only where the width is above 0 and its index is 1,024 or more.
+    bad-index : (i : ℕ) → (numberOf (singleAnswer t w packed i) ≡ 0 → ⊥) → (0 < w) × (1024 ≤ i)
+    bad-index i refused =
+        let never : ((w ≡ 0) ⊎ (i < 1024)) → ⊥ = λ good. refused (single-numbers t w packed i 0 .0 .1 (hw, (ep, (good, refl))) .0) in (
+          elim (decLe 1 w) [
+            | yes h ↦ h
+            | no d ↦ absurd (never (inl (omega arith)))
+          ],
+          elim (decLe 1024 i) [
+            | yes h ↦ h
+            | no d ↦ absurd (never (inr (omega arith)))
+          ],
+        )
+
+    -- One entry that single access refuses refuses the whole list, with the lowest place of such an entry, and nothing is written.
+    pub batch-refused : (i : ℕ) → i < length indices → (numberOf (singleAnswer t w packed (getD indices i 0)) ≡ 0 → ⊥)
+        → (listAnswer t w packed indices output ≡ Index (firstBeyond 1024 indices))
+        × (firstBeyond 1024 indices ≤ i)
+        × (listLeaves t w packed indices output ≡ output)
+    batch-refused i h refused =
+        let bad = bad-index (getD indices i 0) refused in
+        let first : firstBeyond 1024 indices ≤ i =
+        elim (decLe (firstBeyond 1024 indices) i) [
+          | yes h ↦ h
+          | no d ↦ absurd (omega (arith, first-beyond-before 1024 indices i (omega arith), bad .1))
+        ] in
+        let left = list-refused {S = Answer} (λ _. Done) (λ a. a) t w packed hw ep indices output eo (bad .0) (omega arith) in
+        (left .0, first, left .1)

@@ -1,0 +1,224 @@
+-- The cases that document 01 marks P hold: one theorem over the one list, `cases-hold`. Before it stands a lemma for each kind of case. It
+-- leaves to a case only what is computed from its numbers.
+-- Assumes nothing.
+use mathlib.Core.List.{List, [], _∷_}
+use mathlib.Core.Path.{_≡_, refl, sym, ap, ap₂, _∙_, subst}
+use Prim.Native.Nat.{ℕ, zero, suc, _+_, _*_, _%_, _^_, _≤_, _<_}
+use native.Mathlib.Numerals.{add-one}
+use native.Mathlib.Omega.{arith}
+use lib.Dec.{lit<, lit≤}
+use lib.ListN.{length, getD, take}
+use lib.Seq.{ext-getD}
+use Rattle.places.specs.Numbers.{number, digit, plus, minus}
+use Rattle.places.specs.Places.{order, place, lane, row, source}
+use Rattle.places.specs.Sizes.{Size, lanes}
+use Rattle.places.specs.Tab.{tab, tabFrom}
+use Rattle.places.specs.Transposes.{transposeOf, untransposeOf, transposeLeaves, untransposeLeaves}
+use Rattle.places.proofs.Digits.{number-ext}
+use Rattle.places.proofs.Every.{Same, same}
+use Rattle.places.proofs.Places.{size8, size16, size32, size64, lane-place, row-place, target-source, source-lt}
+use Rattle.places.proofs.Tabs.{getD-tab}
+use Rattle.places.proofs.Walks.{good-blocks}
+use Rattle.packing.specs.declared.t8.Single.the-variants.{Value, Refused}
+use Rattle.packing.specs.Calls.{single, packLeaves}
+use Rattle.packing.specs.Packed.{word, part, wordsNumber, valuesNumber, valueAt}
+use Rattle.packing.proofs.Accesses.{pack-leaves}
+use Rattle.packing.proofs.Answers.{single-good, index-in}
+use Rattle.packing.proofs.Rounds.{word-pack}
+use Rattle.deltas.specs.Calls.{deltaLeaves}
+use Rattle.deltas.proofs.Answers.{for-pack-leaves, unfor-pack-leaves, delta-leaves}
+use Rattle.deltas.proofs.Demand3.{frame-back}
+use Rattle.deltas.proofs.Lanes.{length-for-pack, delta-first, delta-next}
+use Rattle.runs.specs.declared.Encoded.the-variants.{Count}
+use Rattle.runs.specs.Calls.{indicesLeaves, dictionaryLeaves}
+use Rattle.runs.specs.Runs.{runAt, runCount, runValues, dictionaryOf}
+use Rattle.runs.proofs.Answers.{encode-done}
+use Rattle.runs.proofs.Rounds.{encode-counts, index-at, dictionary-first}
+use Rattle.runs.proofs.Runs.{run-same, run-new, run-value, values-count}
+use Rattle.bits.specs.Bits.{bit, goesTo, transposeBitsOf}
+use Rattle.bits.proofs.Bits.{transpose-puts}
+use Rattle.promises.specs.Cases.{Entry, _at_, Holding, Whole, Rows, wordsOf, stands, comes, packs, reads, frames, steps, runs, moves, Holds, rowsP6, blockP10, indicesP10, valuesP10, cases, All}
+
+-- ---- a place, a source, and a bit
+
+place-holds : {t : ℕ} → Size t → (r l p : ℕ) → r < t → l < lanes t → place r l ≡ p → Holds (stands t r l p)
+unfolding Holds
+place-holds {t} s r l p hr hl e = (hr, hl, e, ap (row t) (sym e) ∙ row-place s r l hr hl, ap (lane t) (sym e) ∙ lane-place s r l hr hl)
+
+source-holds : (i j : ℕ) → i < 1024 → source i ≡ j → Holds (comes i j)
+unfolding Holds transposeLeaves untransposeLeaves transposeOf untransposeOf
+source-holds i j h e = (
+  e,
+  λ input output li lo.
+      rw (good-blocks input output li lo) (
+        getD-tab 1024 _ i 0 h ∙ ap (λ k. getD input k 0) e,
+        ap (λ k. getD (untransposeOf input) k 0) (sym e)
+            ∙ getD-tab 1024 _ (source i) 0 (source-lt i h)
+            ∙ ap (λ k. getD input k 0) (target-source i h),
+      ),
+)
+
+bit-holds : {t : ℕ} → Size t → (p q : ℕ) → p < 1024 → goesTo t p ≡ q → Holds (moves t p q)
+unfolding Holds
+bit-holds {t} s p q h e = (e, λ b. ap (bit (transposeBitsOf t b)) (sym e) ∙ transpose-puts s b p h)
+
+-- ---- a packed lane, and single access
+
+-- the words of lane l, each at its place: the digits of the number that the rows make
+laneWords : (t w l : ℕ) → List ℕ → List Entry
+laneWords t w l rows = tab w (λ k. digit t (number w (λ r. getD rows r 0 % 2 ^ w) t) k at (lanes t * k + l))
+
+holding-from : (x : List ℕ) (f : ℕ → Entry) (s n : ℕ) → ((k : ℕ) → k < s + n → getD x (f k .spot) 0 ≡ f k .number)
+    → Holding x (tabFrom s n f)
+unfolding tabFrom
+holding-from x f s zero h = tt
+holding-from x f s (suc n) h = (h s (omega arith), holding-from x f (suc s) n (λ k l. h k (omega arith)))
+
+lane-holds : (t w l : ℕ) (rows : List ℕ) (words : List Entry) → w ≤ t → l < lanes t → length rows ≡ t → laneWords t w l rows ≡ words
+    → Holds (packs t w l rows words)
+unfolding Holds laneWords tab word valuesNumber part
+lane-holds t w l rows words hw hl lr e values packed lv lp held =
+    subst (Holding (packLeaves t w values packed)) e
+    (holding-from (packLeaves t w values packed) _ 0 w
+    (λ k hk.
+    ap (λ x. getD x (lanes t * k + l) 0) (pack-leaves t w values packed hw lv lp)
+    ∙ word-pack t w l k hl (omega arith) values
+    ∙ ap (λ m. digit t m k)
+    (number-ext w (part w values l) (λ r. getD rows r 0 % 2 ^ w) t (λ r hr. ap (λ n. n % 2 ^ w) (held r (omega arith))))))
+
+read-holds : (t w : ℕ) (words : List Entry) (p value many : ℕ) → w ≤ t → p < 1024 → wordsOf t w (row t p) ≡ many
+    → ((packed : List ℕ) → Holding packed words → valueAt t w packed p ≡ value) → Holds (reads t w words p value many)
+unfolding Holds
+read-holds t w words p value many hw hp e from = (
+  e,
+  λ packed lp held. sym (single-good Value Refused t w packed p hw lp) ∙ ap₂ (single Value Refused) (index-in w p hp) (from packed held),
+)
+
+-- ---- a frame
+
+frame-holds : {t : ℕ} → Size t → (w value reference difference result : ℕ) → w ≤ t
+    → minus t value reference ≡ difference → plus t (difference % 2 ^ w) reference ≡ result
+    → Holds (frames t w value reference difference result)
+unfolding Holds
+frame-holds {t} s w value reference difference result hw d back = (
+  d,
+  λ values packed output lv lp lo p h e.
+      let ef = length-for-pack t w values reference in
+      rw (for-pack-leaves t w values packed hw lv lp reference, unfor-pack-leaves t w output _ hw lo ef reference)
+      (frame-back s w values reference p h
+      ∙ ap (λ n. plus t (minus t n reference % 2 ^ w) reference) e
+      ∙ ap (λ n. plus t (n % 2 ^ w) reference) d
+      ∙ back),
+)
+
+-- ---- the differences of a lane
+
+-- row r of a lane that has this base and these rows, minus what stands before it
+stepOf : ℕ → ℕ → List ℕ → ℕ → ℕ
+stepOf t base rows zero = minus t (getD rows 0 0) base
+stepOf t base rows (suc r) = minus t (getD rows (suc r) 0) (getD rows r 0)
+
+module _ {t : ℕ} (s : Size t) (base : ℕ) (rows : List ℕ) (fits : length rows ≤ t) where
+  step-left : (values bases output : List ℕ) → length values ≡ 1024 → length bases ≡ lanes t → length output ≡ 1024
+      → (l : ℕ) → l < lanes t → getD bases l 0 ≡ base → Rows values l rows
+      → (r : ℕ) → r < length rows → getD (deltaLeaves t values bases output) (place r l) 0 ≡ stepOf t base rows r
+  unfolding stepOf
+  step-left values bases output lv lb lo l hl eb held zero hr =
+      rw (delta-leaves t values bases output lv lo lb) (delta-first s values bases l hl ∙ ap₂ (minus t) (held zero hr) eb)
+  step-left values bases output lv lb lo l hl eb held (suc r) hr =
+      rw (delta-leaves t values bases output lv lo lb)
+      (rw add-one at (delta-next s values bases l hl r (omega arith)) ∙ ap₂ (minus t) (held (suc r) hr) (held r (omega arith)))
+
+  steps-hold : (differences : List ℕ) → length differences ≤ length rows
+      → Same (length differences) (stepOf t base rows) (λ r. getD differences r 0) → Holds (steps t base rows differences)
+  unfolding Holds
+  steps-hold differences shorter test values bases output lv lb lo l hl eb held r hr =
+      step-left values bases output lv lb lo l hl eb held r (omega arith)
+      ∙ same (length differences) (stepOf t base rows) (λ r. getD differences r 0) test r hr
+
+-- ---- runs
+
+-- P10's block, for two numbers that differ
+module _ (a b : ℕ) (apart : a ≡ b → ⊥) (v : List ℕ) (whole : Whole v (blockP10 a b)) where
+  run-1 : runAt v 1 ≡ 0
+  unfolding runAt
+  run-1 = run-same v 0 (whole 1 (lit< tt) ∙ sym (whole 0 (lit< tt)))
+
+  run-2 : runAt v 2 ≡ 1
+  run-2 = run-new v 1 (λ e. apart (sym (whole 1 (lit< tt)) ∙ sym e ∙ whole 2 (lit< tt))) ∙ ap (λ n. n + 1) run-1
+
+  run-3 : runAt v 3 ≡ 2
+  run-3 = run-new v 2 (λ e. apart (sym (whole 3 (lit< tt)) ∙ e ∙ whole 2 (lit< tt))) ∙ ap (λ n. n + 1) run-2
+
+  -- from place 3 on no value differs from the one before
+  run-later : (k : ℕ) → suc (suc (suc k)) < 1024 → runAt v (suc (suc (suc k))) ≡ 2
+  run-later zero h = run-3
+  run-later (suc k) h =
+      let i : ℕ = suc (suc (suc k)) in
+      run-same v i (whole (suc i) h ∙ sym (whole i (omega arith))) ∙ run-later k (omega arith)
+
+  run-at : (i : ℕ) → i < 1024 → runAt v i ≡ getD (indicesP10 .front) i (indicesP10 .rest)
+  unfolding runAt
+  run-at zero h = refl
+  run-at (suc zero) h = run-1
+  run-at (suc (suc zero)) h = run-2
+  run-at (suc (suc (suc zero))) h = run-3
+  run-at (suc (suc (suc (suc k)))) h = run-later (suc k) h
+
+  run-count : runCount v ≡ 3
+  unfolding runCount
+  run-count = ap (λ n. n + 1) (run-at 1023 (lit< tt))
+
+  -- the value of a run is that of a place in it; the runs begin at places 0, 2 and 3
+  value-of : (i : ℕ) → i < 1024 → getD (runValues v) (getD (indicesP10 .front) i (indicesP10 .rest)) 0 ≡ getD (blockP10 a b .front) i a
+  value-of i h = ap (λ n. getD (runValues v) n 0) (sym (run-at i h)) ∙ run-value v i h ∙ whole i h
+
+  value-at : (k : ℕ) → k < 3 → getD (runValues v) k 0 ≡ getD (valuesP10 a b) k 0
+  value-at zero h = value-of 0 (lit< tt)
+  value-at (suc zero) h = value-of 2 (lit< tt)
+  value-at (suc (suc zero)) h = value-of 3 (lit< tt)
+  value-at (suc (suc (suc k))) h = absurd (omega arith)
+
+  run-values : runValues v ≡ valuesP10 a b
+  run-values =
+      let n : length (runValues v) ≡ 3 = values-count v ∙ run-count in
+      ext-getD 0 (runValues v) (valuesP10 a b) n (λ k h. value-at k (omega arith))
+
+runs-hold : Holds (runs blockP10 3 indicesP10 valuesP10)
+unfolding Holds indicesLeaves dictionaryLeaves
+runs-hold a b apart v old places lv lo lp whole =
+    let n : runCount v ≡ 3 = run-count a b apart v whole in
+    rw (encode-counts v old places lv lo lp, encode-done v old places lv lo lp) (
+      ap Count n,
+      λ i h. index-at v i h ∙ run-at a b apart v whole i h,
+      ap (λ k. take k (dictionaryOf v old)) (sym n) ∙ dictionary-first v old ∙ run-values a b apart v whole,
+    )
+
+-- ---- the list
+
+-- what holds of the first case of a list, before what holds of the others
+_and_ : {A B : Type 0} → A → B → A × B
+a and b = (a, b)
+
+infixr 20 _and_
+-- In the order of the list. P5 stands in four lines, and P8 and P11 in two each.
+pub cases-hold : All Holds cases
+unfolding order place lane row source goesTo minus plus number digit tab tabFrom laneWords word wordsNumber valueAt stepOf
+cases-hold =
+    place-holds size8 _ _ _ (lit< tt) (lit< tt) refl
+    and place-holds size16 _ _ _ (lit< tt) (lit< tt) refl
+    and place-holds size32 _ _ _ (lit< tt) (lit< tt) refl
+    and place-holds size64 _ _ _ (lit< tt) (lit< tt) refl
+    and source-holds _ _ (lit< tt) refl
+    and source-holds _ _ (lit< tt) refl
+    and source-holds _ _ (lit< tt) refl
+    and source-holds _ _ (lit< tt) refl
+    and lane-holds _ _ _ rowsP6 _ (lit≤ tt) (lit< tt) refl refl
+    and read-holds _ _ _ _ _ _ (lit≤ tt) (lit< tt) refl (λ packed held. rw (held .0, held .1 .0, held .1 .1 .0))
+    and frame-holds size8 _ _ _ _ _ (lit≤ tt) refl refl
+    and frame-holds size8 _ _ _ _ _ (lit≤ tt) refl refl
+    and steps-hold size8 _ _ (lit≤ tt) _ (lit≤ tt) tt
+    and runs-hold
+    and bit-holds size16 _ _ (lit< tt) refl
+    and bit-holds size64 _ _ (lit< tt) refl
+    and tt

@@ -1,0 +1,4 @@
+pub mod Batches
+pub mod Cases
+pub mod Numbers
+pub mod Tables

@@ -1,0 +1,476 @@
+-- The calls answer by document 01's table, "Numbers given back": each number is given, with its place, exactly when it applies and no lower
+-- one does. This is shown once, for a call that tests what it takes in the order of the numbers; each call is then one line. The table
+-- itself, and what each call takes, stand in specs/Tables.antt.
+-- Assumes nothing.
+use mathlib.Core.Bool.{Bool, true, false}
+use mathlib.Core.List.{List, [], _∷_}
+use mathlib.Core.Logic.{_↔_, Iff·rfl, Iff·trans, _⊎_, inl, inr, ⊎-elim, ⊎-map}
+use mathlib.Core.Path.{_≡_, refl, sym, ap, ap₂, subst, _∙_}
+use Prim.Native.Nat.{ℕ, zero, suc, _*_, _≤_, _<_}
+use native.Mathlib.Omega.{arith}
+use lib.Dec.{eqb, leb, ltb}
+use lib.ListN.{length, getD}
+use borrow.Author.Tests.{lt-ltb, ltb-true, ltb-false, leb-true, leb-false, eqb-true, eqb-false}
+use Rattle.places.specs.declared.Answer.{Answer}
+use Rattle.places.specs.declared.Answer.the-variants.{Done, Width, Block, Packed, Base, Lists, Index, Entry}
+use Rattle.places.specs.Answers.{numberOf, placeOf, unless, long}
+use Rattle.places.specs.Pick.{pick, both, either}
+use Rattle.places.specs.Search.{firstBeyond}
+use Rattle.places.specs.Sizes.{t8, t16, t32, t64, lanes}
+use Rattle.places.specs.Transposes.{blocksAnswer}
+use Rattle.places.proofs.Search.{first-beyond-le, first-beyond-before, first-beyond-at, first-beyond-only, first-beyond-none}
+use Rattle.packing.specs.Calls.{blockAnswer, indexAnswer, singleAnswer, singleOf, listAnswer}
+use Rattle.packing.specs.t8 as s8
+use Rattle.packing.specs.t16 as s16
+use Rattle.packing.specs.t32 as s32
+use Rattle.packing.specs.t64 as s64
+use Rattle.packing.specs.declared.t8.Single.the-variants as v8
+use Rattle.packing.specs.declared.t16.Single.the-variants as v16
+use Rattle.packing.specs.declared.t32.Single.the-variants as v32
+use Rattle.packing.specs.declared.t64.Single.the-variants as v64
+use Rattle.packing.proofs.Accesses.{single-answers}
+use Rattle.deltas.specs.Calls.{deltaAnswer, undeltaPackAnswer}
+use Rattle.runs.specs.Calls.{answerOf, encodeAnswer, encodedOf, decodeAnswer}
+use Rattle.runs.proofs.Answers.{encode-answers}
+use Rattle.promises.specs.Tables.{Lowest, Taken, numberFor, Condition, Applies, Given, Gives, Exactly}
+use Rattle.promises.specs.Tables.{a-width, a-block, a-packed, a-base, two-lists, an-index, an-index-list, an-entry-list}
+use Rattle.promises.specs.Tables.{transposeTakes, packTakes, singleTakes, listTakes}
+use Rattle.promises.specs.Tables.{deltaTakes, undeltaPackTakes, encodeTakes, decodeTakes}
+
+-- ---- tests
+
+-- What two tests as one tell of each, and that a test does not both pass and fail.
+both-true : (a b : Bool) → both a b ≡ true → (a ≡ true) × (b ≡ true)
+both-true true b e = (refl, e)
+both-true false true e = (e, refl)
+both-true false false e = (e, e)
+
+either-true : (a b : Bool) → either a b ≡ true → (a ≡ true) ⊎ (b ≡ true)
+either-true true b e = inl refl
+either-true false b e = inr e
+
+either-false : (a b : Bool) → either a b ≡ false → (a ≡ false) × (b ≡ false)
+either-false true true e = (e, e)
+either-false true false e = (e, refl)
+either-false false b e = (refl, e)
+
+false-true : false ≡ true → ⊥
+false-true e = eqb-false 0 0 (sym e) refl
+
+-- ---- the lowest place
+
+module _ (limit : ℕ) (list : List ℕ) where
+  -- The search finds it where there is one,
+  lowest-is : (firstBeyond limit list ≡ length list → ⊥) → Lowest limit list (firstBeyond limit list)
+  lowest-is some =
+      let h : firstBeyond limit list < length list = omega (arith, first-beyond-le limit list) in
+      record { within = h; beyond = first-beyond-at limit list h; earlier = first-beyond-before limit list }
+
+  -- there is none where every number is below the limit, as where the search gives the list's length,
+  not-lowest : ((i : ℕ) → i < length list → getD list i 0 < limit) → (p : ℕ) → ¬ Lowest limit list p
+  not-lowest all p c = omega (arith, all p (c .within), c .beyond)
+
+  all-below : eqb (firstBeyond limit list) (length list) ≡ true → (i : ℕ) → i < length list → getD list i 0 < limit
+  all-below e = first-beyond-none limit list .0 (eqb-true (firstBeyond limit list) (length list) e)
+
+  -- and no other place is it, so that two such places are one.
+  lowest-only : (p : ℕ) → Lowest limit list p → firstBeyond limit list ≡ p
+  lowest-only p c = sym (first-beyond-only limit list p (omega (arith, c .within)) (c .earlier) (λ _. c .beyond))
+
+  pub lowest-one : (p q : ℕ) → Lowest limit list p → Lowest limit list q → p ≡ q
+  lowest-one p q c d = sym (lowest-only p c) ∙ lowest-only q d
+
+-- ---- the tests of a call, one for each thing that it takes
+
+-- The test, and the refusal where it fails, are those of the calls; that they are is seen at each call below, where the two agree by `refl`
+-- or by a law on tests.
+abbrev passes : Taken → Bool
+passes (a-width t w) = leb w t
+passes (a-block values) = long 1024 values
+passes (a-packed t w words) = long (lanes t * w) words
+passes (a-base t starts) = long (lanes t) starts
+passes (two-lists list output) = long (length list) output
+passes (an-index w i) = either (eqb w 0) (ltb i 1024)
+passes (an-index-list w list) = either (eqb w 0) (eqb (firstBeyond 1024 list) (length list))
+passes (an-entry-list dictionary list) = eqb (firstBeyond (length dictionary) list) (length list)
+
+abbrev refusal : Taken → Answer
+refusal (a-width t w) = Width
+refusal (a-block values) = Block
+refusal (a-packed t w words) = Packed
+refusal (a-base t starts) = Base
+refusal (two-lists list output) = Lists
+refusal (an-index w i) = Index 0
+refusal (an-index-list w list) = Index (firstBeyond 1024 list)
+refusal (an-entry-list dictionary list) = Entry (firstBeyond (length dictionary) list)
+
+-- A call tests what it takes in the order of the list.
+abbrev answerFor : List Taken → Answer
+answerFor [] = Done
+answerFor (x ∷ xs) = unless (passes x) (refusal x) (answerFor xs)
+
+-- The refusal has the number of the table, which is not 0.
+numbered : (x : Taken) → (numberOf (refusal x) ≡ numberFor x) × (0 < numberFor x)
+numbered (a-width t w) = (refl, omega arith)
+numbered (a-block values) = (refl, omega arith)
+numbered (a-packed t w words) = (refl, omega arith)
+numbered (a-base t starts) = (refl, omega arith)
+numbered (two-lists list output) = (refl, omega arith)
+numbered (an-index w i) = (refl, omega arith)
+numbered (an-index-list w list) = (refl, omega arith)
+numbered (an-entry-list dictionary list) = (refl, omega arith)
+
+-- What is taken is in order: the table's condition the other way round, in plain arithmetic.
+abbrev pub InOrder : Taken → Type 0
+InOrder (a-width t w) = w ≤ t
+InOrder (a-block values) = length values ≡ 1024
+InOrder (a-packed t w words) = length words ≡ lanes t * w
+InOrder (a-base t starts) = length starts ≡ lanes t
+InOrder (two-lists list output) = length output ≡ length list
+InOrder (an-index w i) = (w ≡ 0) ⊎ (i < 1024)
+InOrder (an-index-list w list) = (w ≡ 0) ⊎ ((i : ℕ) → i < length list → getD list i 0 < 1024)
+InOrder (an-entry-list dictionary list) = (i : ℕ) → i < length list → getD list i 0 < length dictionary
+
+-- Where the test passes, it is,
+passed : (x : Taken) → passes x ≡ true → InOrder x
+passed (a-width t w) e = leb-true w t e
+passed (a-block values) e = eqb-true (length values) 1024 e
+passed (a-packed t w words) e = eqb-true (length words) (lanes t * w) e
+passed (a-base t starts) e = eqb-true (length starts) (lanes t) e
+passed (two-lists list output) e = eqb-true (length output) (length list) e
+passed (an-index w i) e = ⊎-map (eqb-true w 0) (ltb-true i 1024) (either-true (eqb w 0) (ltb i 1024) e)
+passed (an-index-list w list) e =
+    ⊎-map (eqb-true w 0) (all-below 1024 list) (either-true (eqb w 0) (eqb (firstBeyond 1024 list) (length list)) e)
+passed (an-entry-list dictionary list) e = all-below (length dictionary) list e
+
+-- and where it is, the condition holds at no place.
+no-condition : (x : Taken) → InOrder x → (p : ℕ) → ¬ Condition x p
+no-condition (a-width t w) o p c = omega arith
+no-condition (a-block values) o p c = c .0 o
+no-condition (a-packed t w words) o p c = c .0 o
+no-condition (a-base t starts) o p c = c .0 o
+no-condition (two-lists list output) o p c = c .0 o
+no-condition (an-index w i) o p c = ⊎-elim (λ z. omega arith) (λ h. omega arith) o
+no-condition (an-index-list w list) o p c = ⊎-elim (λ z. omega arith) (λ all. not-lowest 1024 list all p (c .1)) o
+no-condition (an-entry-list dictionary list) o p c = not-lowest (length dictionary) list o p c
+
+positive : (w : ℕ) → eqb w 0 ≡ false → 0 < w
+positive zero e = absurd (eqb-false 0 0 e refl)
+positive (suc w) e = omega arith
+
+-- Where the test fails, the condition holds at the refusal's place,
+failed : (x : Taken) → passes x ≡ false → Condition x (placeOf (refusal x))
+failed (a-width t w) e = (leb-false w t e, refl)
+failed (a-block values) e = (eqb-false (length values) 1024 e, refl)
+failed (a-packed t w words) e = (eqb-false (length words) (lanes t * w) e, refl)
+failed (a-base t starts) e = (eqb-false (length starts) (lanes t) e, refl)
+failed (two-lists list output) e = (eqb-false (length output) (length list) e, refl)
+failed (an-index w i) e =
+    let f : (eqb w 0 ≡ false) × (ltb i 1024 ≡ false) = either-false (eqb w 0) (ltb i 1024) e in
+    (positive w (f .0), ltb-false i 1024 (f .1), refl)
+failed (an-index-list w list) e =
+    let f : (eqb w 0 ≡ false) × (eqb (firstBeyond 1024 list) (length list) ≡ false) =
+    either-false (eqb w 0) (eqb (firstBeyond 1024 list) (length list)) e in
+    (positive w (f .0), lowest-is 1024 list (eqb-false (firstBeyond 1024 list) (length list) (f .1)))
+failed (an-entry-list dictionary list) e =
+    lowest-is (length dictionary) list (eqb-false (firstBeyond (length dictionary) list) (length list) e)
+
+-- and at no other.
+placed : (x : Taken) (p : ℕ) → Condition x p → placeOf (refusal x) ≡ p
+placed (a-width t w) p c = sym (c .1)
+placed (a-block values) p c = sym (c .1)
+placed (a-packed t w words) p c = sym (c .1)
+placed (a-base t starts) p c = sym (c .1)
+placed (two-lists list output) p c = sym (c .1)
+placed (an-index w i) p c = sym (c .2)
+placed (an-index-list w list) p c = lowest-only 1024 list p (c .1)
+placed (an-entry-list dictionary list) p c = lowest-only (length dictionary) list p c
+
+-- The place is 0 for every number but 6 and 7.
+pub place-zero : (a : Answer) → numberOf a < 6 → placeOf a ≡ 0
+place-zero Done h = refl
+place-zero Width h = refl
+place-zero Block h = refl
+place-zero Packed h = refl
+place-zero Base h = refl
+place-zero Lists h = refl
+place-zero (Index p) h = absurd (omega arith)
+place-zero (Entry p) h = absurd (omega arith)
+
+-- ---- in the order of the numbers
+
+-- y may stand after x where it has a higher number, or the same one, as two blocks have, if that one's place is always 0.
+abbrev follows : Taken → Taken → Bool
+follows x y = either (ltb (numberFor x) (numberFor y)) (both (eqb (numberFor x) (numberFor y)) (ltb (numberFor x) 6))
+
+abbrev allFollow : Taken → List Taken → Bool
+allFollow x [] = true
+allFollow x (y ∷ ys) = both (follows x y) (allFollow x ys)
+
+abbrev ordered : List Taken → Bool
+ordered [] = true
+ordered (x ∷ xs) = both (allFollow x xs) (ordered xs)
+
+-- So what applies after x has a higher number, or x's own number and place.
+later : (x y : Taken) → follows x y ≡ true → (p : ℕ) → Condition y p
+    → (numberFor x < numberFor y) ⊎ ((numberFor x ≡ numberFor y) × (placeOf (refusal x) ≡ p))
+later x y e p c =
+    ⊎-elim
+    (λ h. inl (ltb-true (numberFor x) (numberFor y) h))
+    (λ h.
+    let f : (eqb (numberFor x) (numberFor y) ≡ true) × (ltb (numberFor x) 6 ≡ true) =
+    both-true (eqb (numberFor x) (numberFor y)) (ltb (numberFor x) 6) h in
+    let same : numberFor x ≡ numberFor y = eqb-true (numberFor x) (numberFor y) (f .0) in
+    let low : numberFor x < 6 = ltb-true (numberFor x) 6 (f .1) in
+    inr (
+      same,
+      place-zero (refusal x) (omega (arith, numbered x)) ∙ sym (place-zero (refusal y) (omega (arith, numbered y))) ∙ placed y p c,
+    ))
+    (either-true (ltb (numberFor x) (numberFor y)) (both (eqb (numberFor x) (numberFor y)) (ltb (numberFor x) 6)) e)
+
+after : (x : Taken) (ys : List Taken) → allFollow x ys ≡ true → (n p : ℕ) → Applies ys n p
+    → (numberFor x < n) ⊎ ((numberFor x ≡ n) × (placeOf (refusal x) ≡ p))
+after x [] e n p a = absurd a
+after x (y ∷ ys) e n p (inl h) =
+    subst (λ (n : ℕ). (numberFor x < n) ⊎ ((numberFor x ≡ n) × (placeOf (refusal x) ≡ p))) (h .0)
+    (later x y (both-true (follows x y) (allFollow x ys) e .0) p (h .1))
+after x (y ∷ ys) e n p (inr a) = after x ys (both-true (follows x y) (allFollow x ys) e .1) n p a
+
+-- ---- the answer is the table's
+
+module _ (x : Taken) (xs : List Taken) where
+  -- Where the first test passes, what is taken after it decides.
+  rest : passes x ≡ true → (n p : ℕ) → Applies (x ∷ xs) n p → Applies xs n p
+  rest e n p (inl h) = absurd (no-condition x (passed x e) p (h .1))
+  rest e n p (inr a) = a
+
+  given-rest : passes x ≡ true → (n p : ℕ) → Given xs n p ↔ Given (x ∷ xs) n p
+  given-rest e zero p = (
+    (λ g. (g .0, λ m q a. g .1 m q (rest e m q a))),
+    (λ g. (g .0, λ m q a. g .1 m q (inr a))),
+  )
+  given-rest e (suc n) p = (
+    (λ g. (inr (g .0), λ m q h a. g .1 m q h (rest e m q a))),
+    (λ g. (rest e (suc n) p (g .0), λ m q h a. g .1 m q h (inr a))),
+  )
+
+  -- Where it fails, its own number and place are given, since what is taken after it has no lower number.
+  given-first : passes x ≡ false → allFollow x xs ≡ true → (n p : ℕ)
+      → Gives (refusal x) n p ↔ Given (x ∷ xs) n p
+  given-first e f zero p = (
+    (λ h. absurd (omega (arith, numbered x))),
+    (λ g. absurd (g .1 (numberFor x) (placeOf (refusal x)) (inl (refl, failed x e)))),
+  )
+  given-first e f (suc n) p = (
+    (λ h. (
+      inl (sym (numbered x .0) ∙ h .0, subst (Condition x) (h .1) (failed x e)),
+      λ m q below.
+          ⊎-elim
+          (λ g. omega (arith, numbered x))
+          (λ a. ⊎-elim (λ g. omega (arith, numbered x)) (λ g. omega (arith, numbered x)) (after x xs f m q a)),
+    )),
+    (λ g.
+        ⊎-elim
+        (λ h. (numbered x .0 ∙ h .0, placed x p (h .1)))
+        (λ a.
+        ⊎-elim
+        (λ h. absurd (g .1 (numberFor x) (placeOf (refusal x)) h (inl (refl, failed x e))))
+        (λ h. (numbered x .0 ∙ h .0, h .1))
+        (after x xs f (suc n) p a))
+        (g .0)),
+  )
+
+-- A call that tests what it takes in the order of the numbers answers by the table.
+pub exactly : (xs : List Taken) → ordered xs ≡ true → Exactly (answerFor xs) xs
+exactly [] o zero p = ((λ h. (sym (h .1), λ m q a. a)), (λ g. (refl, sym (g .0))))
+exactly [] o (suc n) p = ((λ h. absurd (omega arith)), (λ g. absurd (g .0)))
+exactly (x ∷ xs) o n p = go (passes x) refl (exactly xs (both-true (allFollow x xs) (ordered xs) o .1) n p)
+  where
+    go : (b : Bool) → passes x ≡ b → Gives (answerFor xs) n p ↔ Given xs n p
+        → Gives (unless b (refusal x) (answerFor xs)) n p ↔ Given (x ∷ xs) n p
+    go true e r = Iff·trans r (given-rest x xs e n p)
+    go false e r = given-first x xs e (both-true (allFollow x xs) (ordered xs) o .0) n p
+
+-- ---- the table admits one answer
+
+-- An answer is known by its number and its place,
+abbrev answerWith : ℕ → ℕ → Answer
+answerWith n p = getD (Done ∷ Width ∷ Block ∷ Packed ∷ Base ∷ Lists ∷ Index p ∷ Entry p ∷ []) n Done
+
+known : (a : Answer) → answerWith (numberOf a) (placeOf a) ≡ a
+known Done = refl
+known Width = refl
+known Block = refl
+known Packed = refl
+known Base = refl
+known Lists = refl
+known (Index p) = refl
+known (Entry p) = refl
+
+-- so two answers by the table, for the same things taken, are one.
+pub one-answer : (a b : Answer) (xs : List Taken) → Exactly a xs → Exactly b xs → a ≡ b
+one-answer a b xs table other =
+    let same : Gives b (numberOf a) (placeOf a) = other (numberOf a) (placeOf a) .1 (table (numberOf a) (placeOf a) .0 (refl, refl)) in
+    sym (known a) ∙ sym (ap₂ answerWith (same .0) (same .1)) ∙ known b
+
+-- ---- the table in plain arithmetic
+
+-- This is what is taken whose number passes the test.
+abbrev keep : (ℕ → Bool) → List Taken → List Taken
+keep test [] = []
+keep test (x ∷ xs) = pick (test (numberFor x)) (x ∷ keep test xs) (keep test xs)
+
+-- All that stands in the list is in order, and then Q holds.
+abbrev AllThen : List Taken → Type 0 → Type 0
+AllThen [] Q = Q
+AllThen (x ∷ xs) Q = InOrder x × AllThen xs Q
+
+-- The condition of one that stands in the list holds at place p. It has no case too many, so that it reads well where it is computed.
+abbrev OneOf : List Taken → ℕ → Type 0
+OneOf [] p = ⊥
+OneOf (x ∷ []) p = Condition x p
+OneOf (x ∷ y ∷ ys) p = Condition x p ⊎ OneOf (y ∷ ys) p
+
+-- `Given` with all that is to be shown spelled out. Where the number is known, this computes to plain arithmetic over what the call takes.
+abbrev pub Plain : List Taken → ℕ → ℕ → Type 0
+Plain taken zero p = AllThen (keep (λ m. true) taken) (p ≡ 0)
+Plain taken (suc n) p = AllThen (keep (λ m. ltb m (suc n)) taken) (OneOf (keep (λ m. eqb m (suc n)) taken) p)
+
+-- What meets its condition nowhere is in order.
+in-order : (x : Taken) → ((p : ℕ) → ¬ Condition x p) → InOrder x
+in-order x none = go (passes x) refl
+  where
+    go : (b : Bool) → passes x ≡ b → InOrder x
+    go true e = passed x e
+    go false e = absurd (none (placeOf (refusal x)) (failed x e))
+
+-- No number that passes the test applies exactly when all that has such a number is in order.
+all-kept : (test : ℕ → Bool) (xs : List Taken) (Q : Type 0)
+    → (((m q : ℕ) → test m ≡ true → ¬ Applies xs m q) × Q) ↔ AllThen (keep test xs) Q
+all-kept test [] Q = ((λ h. h .1), (λ q. ((λ m r e a. a), q)))
+all-kept test (x ∷ xs) Q = go (test (numberFor x)) refl (all-kept test xs Q)
+  where
+    go : (b : Bool) → test (numberFor x) ≡ b → (((m q : ℕ) → test m ≡ true → ¬ Applies xs m q) × Q) ↔ AllThen (keep test xs) Q
+        → (((m q : ℕ) → test m ≡ true → ¬ Applies (x ∷ xs) m q) × Q) ↔ AllThen (pick b (x ∷ keep test xs) (keep test xs)) Q
+    go true e later = (
+      (λ h. (in-order x (λ p c. h .0 (numberFor x) p e (inl (refl, c))), later .0 ((λ m q t a. h .0 m q t (inr a)), h .1))),
+      (λ h. ((λ m q t. ⊎-elim (λ c. no-condition x (h .0) q (c .1)) (later .1 (h .1) .0 m q t)), later .1 (h .1) .1)),
+    )
+    go false e later = (
+      (λ h. later .0 ((λ m q t a. h .0 m q t (inr a)), h .1)),
+      (λ h. ((λ m q t. ⊎-elim (λ c. false-true (sym e ∙ ap test (c .0) ∙ t)) (later .1 h .0 m q t)), later .1 h .1)),
+    )
+
+one-more : (x : Taken) (xs : List Taken) (p : ℕ) → (Condition x p ⊎ OneOf xs p) ↔ OneOf (x ∷ xs) p
+one-more x [] p = (⊎-elim (λ c. c) (λ a. absurd a), inl)
+one-more x (y ∷ ys) p = Iff·rfl
+
+-- Number n applies exactly when something that has it meets its condition.
+one-kept : (xs : List Taken) (n p : ℕ) → Applies xs n p ↔ OneOf (keep (λ m. eqb m n) xs) p
+one-kept [] n p = Iff·rfl
+one-kept (x ∷ xs) n p = go (eqb (numberFor x) n) refl (one-kept xs n p)
+  where
+    go : (b : Bool) → eqb (numberFor x) n ≡ b → Applies xs n p ↔ OneOf (keep (λ m. eqb m n) xs) p
+        → Applies (x ∷ xs) n p ↔ OneOf (pick b (x ∷ keep (λ m. eqb m n) xs) (keep (λ m. eqb m n) xs)) p
+    go true e later =
+        Iff·trans
+        (⊎-map (λ c. c .1) (later .0), ⊎-map (λ c. (eqb-true (numberFor x) n e, c)) (later .1))
+        (one-more x (keep (λ m. eqb m n) xs) p)
+    go false e later = (⊎-elim (λ c. absurd (eqb-false (numberFor x) n e (c .0))) (later .0), λ o. inr (later .1 o))
+
+plain : (xs : List Taken) (n p : ℕ) → Given xs n p ↔ Plain xs n p
+plain xs zero p = Iff·trans ((λ g. ((λ m q t. g .1 m q), g .0)), (λ h. (h .1, λ m q. h .0 m q refl))) (all-kept (λ m. true) xs (p ≡ 0))
+plain xs (suc n) p =
+    Iff·trans (
+      (λ g. ((λ m q t. g .1 m q (ltb-true m (suc n) t)), one-kept xs (suc n) p .0 (g .0))),
+      (λ h. (one-kept xs (suc n) p .1 (h .1), λ m q t. h .0 m q (lt-ltb m (suc n) t))),
+    )
+    (all-kept (λ m. ltb m (suc n)) xs (OneOf (keep (λ m. eqb m (suc n)) xs) p))
+
+-- What answers by the table does so in plain arithmetic.
+pub plainly : (a : Answer) (xs : List Taken) → Exactly a xs → (n p : ℕ) → Gives a n p ↔ Plain xs n p
+plainly a xs table n p = Iff·trans (table n p) (plain xs n p)
+
+-- ---- each call
+
+-- Two blocks that are tested together are two blocks tested one after the other.
+two-blocks : (a b : Bool) (r : Answer) → unless a Block (unless b Block r) ≡ unless (both a b) Block r
+two-blocks true b r = refl
+two-blocks false b r = refl
+
+-- transpose, untranspose
+pub transpose-table : (input output : List ℕ) → Exactly (blocksAnswer input output) (transposeTakes input output)
+unfolding blocksAnswer
+transpose-table input output =
+    subst (λ a. Exactly a (transposeTakes input output)) (two-blocks (long 1024 input) (long 1024 output) Done)
+    (exactly (transposeTakes input output) refl)
+
+-- pack, unpack, for_pack, unfor_pack
+pub pack-table : (t w : ℕ) (values packed : List ℕ) → Exactly (blockAnswer t w values packed) (packTakes t w values packed)
+unfolding blockAnswer
+pack-table t w values packed = exactly (packTakes t w values packed) refl
+
+-- single access
+pub single-table : (t w : ℕ) (packed : List ℕ) (index : ℕ) → Exactly (singleAnswer t w packed index) (singleTakes t w packed index)
+unfolding singleAnswer indexAnswer
+single-table t w packed index = exactly (singleTakes t w packed index) refl
+
+-- Single access gives a value or a refusal. However the two cases are read, the answer that is read off is the one of the table.
+pub single-call-table : {S : Type 0} (value : ℕ → S) (refused : Answer → S) (answer : S → Answer)
+    → ((v : ℕ) → answer (value v) ≡ Done) → ((a : Answer) → answer (refused a) ≡ a)
+    → (t w : ℕ) (packed : List ℕ) (index : ℕ) → Exactly (answer (singleOf value refused t w packed index)) (singleTakes t w packed index)
+single-call-table value refused answer done refuses t w packed index =
+    subst (λ a. Exactly a (singleTakes t w packed index)) (sym (single-answers value refused t w packed index answer done refuses))
+    (single-table t w packed index)
+
+-- So it is at each size, with the reading that packing's specs/ give of that size's enum.
+pub single-t8 : (w : ℕ) (packed : List ℕ) (index : ℕ)
+    → Exactly (s8.answerOf (singleOf v8.Value v8.Refused t8 w packed index)) (singleTakes t8 w packed index)
+single-t8 = single-call-table v8.Value v8.Refused s8.answerOf (λ _. refl) (λ _. refl) t8
+
+pub single-t16 : (w : ℕ) (packed : List ℕ) (index : ℕ)
+    → Exactly (s16.answerOf (singleOf v16.Value v16.Refused t16 w packed index)) (singleTakes t16 w packed index)
+single-t16 = single-call-table v16.Value v16.Refused s16.answerOf (λ _. refl) (λ _. refl) t16
+
+pub single-t32 : (w : ℕ) (packed : List ℕ) (index : ℕ)
+    → Exactly (s32.answerOf (singleOf v32.Value v32.Refused t32 w packed index)) (singleTakes t32 w packed index)
+single-t32 = single-call-table v32.Value v32.Refused s32.answerOf (λ _. refl) (λ _. refl) t32
+
+pub single-t64 : (w : ℕ) (packed : List ℕ) (index : ℕ)
+    → Exactly (s64.answerOf (singleOf v64.Value v64.Refused t64 w packed index)) (singleTakes t64 w packed index)
+single-t64 = single-call-table v64.Value v64.Refused s64.answerOf (λ _. refl) (λ _. refl) t64
+
+-- access by a list
+pub list-table : (t w : ℕ) (packed indices output : List ℕ)
+    → Exactly (listAnswer t w packed indices output) (listTakes t w packed indices output)
+unfolding listAnswer
+list-table t w packed indices output = exactly (listTakes t w packed indices output) refl
+
+-- delta, undelta
+pub delta-table : (t : ℕ) (input base output : List ℕ)
+    → Exactly (deltaAnswer t input base output) (deltaTakes t input base output)
+unfolding deltaAnswer
+delta-table t input base output =
+    subst (λ a. Exactly a (deltaTakes t input base output))
+    (two-blocks (long 1024 input) (long 1024 output) (unless (long (lanes t) base) Base Done))
+    (exactly (deltaTakes t input base output) refl)
+
+-- undelta_pack
+pub undelta-pack-table : (t w : ℕ) (packed base values : List ℕ)
+    → Exactly (undeltaPackAnswer t w packed base values) (undeltaPackTakes t w packed base values)
+unfolding undeltaPackAnswer
+undelta-pack-table t w packed base values = exactly (undeltaPackTakes t w packed base values) refl
+
+-- encode, of whose result the answer is a part
+pub encode-table : (values dictionary indices : List ℕ)
+    → Exactly (answerOf (encodedOf values dictionary indices)) (encodeTakes values dictionary indices)
+unfolding encodeAnswer
+encode-table values dictionary indices =
+    subst (λ a. Exactly a (encodeTakes values dictionary indices)) (sym (encode-answers values dictionary indices))
+    (exactly (encodeTakes values dictionary indices) refl)
+
+-- decode
+pub decode-table : (dictionary indices output : List ℕ)
+    → Exactly (decodeAnswer dictionary indices output) (decodeTakes dictionary indices output)
+unfolding decodeAnswer
+decode-table dictionary indices output = exactly (decodeTakes dictionary indices output) refl

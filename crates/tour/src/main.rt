@@ -1,0 +1,128 @@
+// A tour in a screenful, for a person: a block is packed, a row is looked up, two calls are refused, and a width does damage that is too
+// narrow for its numbers. The program reads nothing. What it must write stands in crates/tour/stdout, worked out by hand from document 01.
+use libc::STDOUT_FILENO;
+use packing::t8::Single;
+use places::Answer;
+
+fn main() {
+    let rows = places::t8::row_table();
+    let mut packed = [0u8; 384];
+    let answer = packing::t8::pack(3, &rows, &mut packed);
+    show_block(answer, &packed);
+    show_lookup(&packed);
+    show_list(&packed);
+    show_widths();
+}
+
+// The answer of pack, and the packed bytes of the first lane (P6).
+fn show_block(answer: Answer, packed: &[u8; 384]) {
+    say(b"A block of 1024 path numbers, in which each lane holds 0 to 7 in its rows,\n");
+    say(b"is packed at width 3, from 1024 bytes to 384. Number 0 says that it is done:\n");
+    show_answer(answer);
+    say(b"These are the packed bytes of lane 0:\n");
+    line(b"  ", wide(packed[0]), b" at ", 0);
+    line(b"  ", wide(packed[128]), b" at ", 128);
+    line(b"  ", wide(packed[256]), b" at ", 256);
+}
+
+// One row from the packed block (P7), and the same at a width that there is not.
+fn show_lookup(packed: &[u8; 384]) {
+    say(b"\nA stub looks up the row at place 256 in the packed block:\n");
+    look_up(3, packed);
+    say(b"It asks again at width 9, and is refused, since a byte has 8 bits:\n");
+    look_up(9, packed);
+}
+
+fn look_up(width: usize, packed: &[u8; 384]) {
+    let single = packing::t8::unpack_single(width, packed, 256);
+    match single {
+        Single::Value(x) => line(b"  ", wide(x), b" at ", 256),
+        Single::Refused(answer) => show_answer(answer),
+    }
+}
+
+// A list of places of which the block does not have the third.
+fn show_list(packed: &[u8; 384]) {
+    let mut output = [77u8; 3];
+    let answer = packing::t8::unpack_indices(3, packed, &[0, 256, 1024], &mut output);
+    say(b"\nA stub asks for a list of places: 0, 256 and 1024. A block ends at 1023,\n");
+    say(b"so the list is refused, and the place is that of the bad entry:\n");
+    show_answer(answer);
+    say(b"Its output held 77 in every entry, and still does:\n");
+    line(b"  ", wide(output[0]), b" at ", 0);
+    line(b"  ", wide(output[1]), b" at ", 1);
+    line(b"  ", wide(output[2]), b" at ", 2);
+}
+
+// Numbers that a width is too narrow for. That is no refusal: they come back as others, and P8 is such a case.
+fn show_widths() {
+    let mut wider = [0u8; 512];
+    let mut narrower = [0u8; 384];
+    say(b"\nA path number 9 is packed and unpacked. Width 3 is too narrow for it,\n");
+    say(b"and that is not refused: it shows only in what comes back.\n");
+    line(b"  ", wide(packed_back(4, 9, &mut wider)), b" at width ", 4);
+    line(
+        b"  ",
+        wide(packed_back(3, 9, &mut narrower)),
+        b" at width ",
+        3,
+    );
+    say(b"\nA path number 3 is packed by its difference from 250, which is 9 modulo 256.\n");
+    line(
+        b"  ",
+        wide(framed_back(4, 3, 250, &mut wider)),
+        b" at width ",
+        4,
+    );
+    line(
+        b"  ",
+        wide(framed_back(3, 3, 250, &mut narrower)),
+        b" at width ",
+        3,
+    );
+}
+
+// What comes back at place 0 of a block of x that is packed and unpacked.
+fn packed_back(width: usize, x: u8, packed: &mut [u8]) -> u8 {
+    let values = [x; 1024];
+    let mut back = [0u8; 1024];
+    packing::t8::pack(width, &values, packed);
+    packing::t8::unpack(width, packed, &mut back);
+    back[0]
+}
+
+// The same by differences from the reference.
+fn framed_back(width: usize, x: u8, reference: u8, packed: &mut [u8]) -> u8 {
+    let values = [x; 1024];
+    let mut back = [0u8; 1024];
+    deltas::t8::for_pack(width, &values, reference, packed);
+    deltas::t8::unfor_pack(width, packed, reference, &mut back);
+    back[0]
+}
+
+fn show_answer(answer: Answer) {
+    line(
+        b"  number ",
+        answer.number() as u64,
+        b", place ",
+        answer.place() as u64,
+    );
+}
+
+// A line with two numbers.
+fn line(before: &[u8], first: u64, between: &[u8], second: u64) {
+    say(before);
+    io::print_decimal(STDOUT_FILENO, first);
+    say(between);
+    io::print_decimal(STDOUT_FILENO, second);
+    say(b"\n");
+}
+
+fn say(text: &[u8]) {
+    io::write_all(STDOUT_FILENO, text);
+}
+
+// A cast in a function of its own leaves nothing to prove where it is used.
+fn wide(x: u8) -> u64 {
+    x as u64
+}
