@@ -41,6 +41,7 @@ pub enum Step {
 // What comes of the case with this head, from what its call gave back and left in the buffers c and d.
 pub fn judge(head: Head, reply: Reply, c: &Wide, c_exit: &Wide, d: &Wide, d_exit: &Wide) -> Step
     ensures { λ r. ⌜ (r ≡ Step.Same → AsExpected head reply (now (c .entry)) (now («c_exit» .entry)) (now (d .entry)) (now («d_exit» .entry))) ⌝ }
+    ensures { λ r. ⌜ (head .«n_c» ≤ 4096 → head .«n_d» ≤ 4096 → AsExpected head reply (now (c .entry)) (now («c_exit» .entry)) (now (d .entry)) (now («d_exit» .entry)) → r ≡ Step.Same) ⌝ }
 {
     let Reply::Given {
         number,
