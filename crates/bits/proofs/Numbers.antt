@@ -1,14 +1,13 @@
 -- The laws of the bits of a number, and of the number that is made of digits.
 -- Assumes nothing.
-use mathlib.Core.Path.{_≡_, refl, sym, ap, _∙_}
+use mathlib.Core.Path.{_≡_, sym, ap, _∙_}
 use Prim.Native.Nat.{ℕ, zero, suc, _+_, _-_, _*_, _/_, _%_, _^_, _≤_, _<_}
 use native.Mathlib.Decide.{ℕ-discrete}
-use native.Mathlib.Nat.{add-comm, zero-add, zero-div, mul-suc, mul-le-mul-left, one-mul, div-one, mod-one, mod-lt, mod-eq-of-lt, le-refl, not-suc-le-zero}
+use native.Mathlib.Nat.{add-comm, zero-add, zero-div, mul-suc, mul-le-mul-left, one-mul, div-one, mod-one, mod-lt, mod-eq-of-lt, not-suc-le-zero}
 use native.Mathlib.Numerals.{one-add}
 use native.Mathlib.Omega.{arith}
-use lib.Arith.{digits-lt}
 use lib.Bits.{bitAnd, bitXor, and-shr, xor-shr, and-mod, xor-mod}
-use lib.Pow.{pow-pos, pow-add, mod-pow-add, mod-mod-pow, field, shr-shr, high, low, shl-shr}
+use lib.Pow.{pow-pos, mod-pow-add, mod-mod-pow, field, shr-shr, high, low, shl-shr}
 use Rattle.places.specs.Numbers.{number}
 use Rattle.places.proofs.Digits.{number-lt, number-ext}
 use Rattle.bits.specs.Numbers.{bitOf}
