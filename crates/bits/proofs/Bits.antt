@@ -14,10 +14,10 @@ use Rattle.places.specs.Transposes.{transposeOf, untransposeOf}
 use Rattle.places.proofs.Every.{same}
 use Rattle.places.proofs.Places.{each, size64, size-lanes, place-row-lane, lane-lt, row-lt, lane-place, row-place, place-lt, source-lt, target-lt}
 use Rattle.places.proofs.Tabs.{getD-tab, tab-ext}
-use Rattle.bits.specs.Bits.{Block, bit, goesTo, comesFrom, transposeBitsOf, untransposeBitsOf}
-use Rattle.bits.specs.Numbers.{bitOf, byteOf}
-use Rattle.bits.specs.Steps.{turnOf}
+use Rattle.bits.specs.Bits.{BitBlock, bit, goesTo, comesFrom, transposeBitsOf, untransposeBitsOf, bitOf}
+use Rattle.bits.specs.InnerSteps.{turnOf, byteOf}
 use Rattle.bits.proofs.Blocks.{block-bit-lt, bit-block, block-block, is-block}
+use Rattle.places.specs.Numbers.{digit}
 use Rattle.bits.proofs.Numbers.{bit-lt, bit-mod, bit-shr, is-number, bit-of-number}
 use Rattle.places.proofs.Digits.{number-lt}
 
@@ -58,7 +58,7 @@ pub transpose-bit : (t : ℕ) (b : List ℕ) (q : ℕ) → q < 1024 → bit (tra
 unfolding transposeBitsOf
 transpose-bit t b = bit-block (λ q. bit b (comesFrom t q)) (λ q _. block-bit-lt b (comesFrom t q))
 
-pub transpose-block : (t : ℕ) (b : List ℕ) → Block (transposeBitsOf t b)
+pub transpose-block : (t : ℕ) (b : List ℕ) → BitBlock (transposeBitsOf t b)
 unfolding transposeBitsOf
 transpose-block t b = block-block (λ q. bit b (comesFrom t q)) (λ q _. block-bit-lt b (comesFrom t q))
 
@@ -74,7 +74,7 @@ module _ {t : ℕ} (s : Size t) (b : List ℕ) where
       ∙ transpose-puts (l * t + r) (subst (λ n. l * t + r < n) (mul-comm (lanes t) t ∙ size-lanes s) (digits-lt hl hr))
 
   -- No other block has the bits there.
-  pub transpose-only : (x : List ℕ) → Block x
+  pub transpose-only : (x : List ℕ) → BitBlock x
       → ((l r : ℕ) → l < lanes t → r < t → bit x (place r l) ≡ bit b (l * t + r)) → x ≡ transposeBitsOf t b
   unfolding transposeBitsOf comesFrom
   transpose-only x whole moves =
@@ -82,7 +82,7 @@ module _ {t : ℕ} (s : Size t) (b : List ℕ) where
       (λ q h. ap (bit x) (sym (place-row-lane s q h)) ∙ moves (lane t q) (row t q) (lane-lt s q h) (row-lt s q h))
 
 -- No two blocks have one transpose.
-pub transpose-one : {t : ℕ} → Size t → (b c : List ℕ) → Block b → Block c → transposeBitsOf t b ≡ transposeBitsOf t c → b ≡ c
+pub transpose-one : {t : ℕ} → Size t → (b c : List ℕ) → BitBlock b → BitBlock c → transposeBitsOf t b ≡ transposeBitsOf t c → b ≡ c
 transpose-one {t} s b c hb hc e =
     is-block b (bit c) hb
     (λ p h. sym (transpose-puts s b p h) ∙ ap (λ x. bit x (goesTo t p)) e ∙ transpose-puts s c p h)
@@ -93,7 +93,7 @@ pub untranspose-bit : (b : List ℕ) (p : ℕ) → p < 1024 → bit (untranspose
 unfolding untransposeBitsOf
 untranspose-bit b = bit-block (λ p. bit b (goesTo t64 p)) (λ p _. block-bit-lt b (goesTo t64 p))
 
-pub untranspose-block : (b : List ℕ) → Block (untransposeBitsOf b)
+pub untranspose-block : (b : List ℕ) → BitBlock (untransposeBitsOf b)
 unfolding untransposeBitsOf
 untranspose-block b = block-block (λ p. bit b (goesTo t64 p)) (λ p _. block-bit-lt b (goesTo t64 p))
 
@@ -102,7 +102,7 @@ pub untranspose-moves : (b : List ℕ) (l r : ℕ) → l < lanes t64 → r < t64
 untranspose-moves b l r hl hr = untranspose-bit b (l * t64 + r) (omega arith) ∙ ap (bit b) (goes-place size64 l r hr)
 
 -- No other block has the bits there.
-pub untranspose-only : (b x : List ℕ) → Block x
+pub untranspose-only : (b x : List ℕ) → BitBlock x
     → ((l r : ℕ) → l < lanes t64 → r < t64 → bit x (l * t64 + r) ≡ bit b (place r l)) → x ≡ untransposeBitsOf b
 unfolding untransposeBitsOf goesTo
 untranspose-only b x whole moves =
@@ -110,11 +110,11 @@ untranspose-only b x whole moves =
     (λ p h. ap (bit x) (sym (div-add-mod' p t64)) ∙ moves (p / t64) (p % t64) (omega arith) (omega arith))
 
 -- Each undoes the other, for every block.
-pub untranspose-transpose : (b : List ℕ) → Block b → untransposeBitsOf (transposeBitsOf t64 b) ≡ b
+pub untranspose-transpose : (b : List ℕ) → BitBlock b → untransposeBitsOf (transposeBitsOf t64 b) ≡ b
 unfolding untransposeBitsOf
 untranspose-transpose b whole = sym (is-block b _ whole (λ p h. sym (transpose-puts size64 b p h)))
 
-pub transpose-untranspose : (b : List ℕ) → Block b → transposeBitsOf t64 (untransposeBitsOf b) ≡ b
+pub transpose-untranspose : (b : List ℕ) → BitBlock b → transposeBitsOf t64 (untransposeBitsOf b) ≡ b
 unfolding transposeBitsOf
 transpose-untranspose b whole =
     sym (is-block b _ whole
@@ -146,8 +146,8 @@ untranspose-values b =
 
 -- The 8 by 8 step, for every number: bit j of byte i moves to bit i of byte j.
 byte-bits : (x i j : ℕ) → j < 8 → bitOf (byteOf x i) j ≡ bitOf x (i * 8 + j)
-unfolding byteOf
-byte-bits x i j h = bit-mod (x / 2 ^ (i * 8)) 8 j h ∙ bit-shr x (i * 8) j
+unfolding digit
+byte-bits x i j h = bit-mod (x / 2 ^ (8 * i)) 8 j h ∙ bit-shr x (8 * i) j ∙ ap (bitOf x) (omega arith)
 
 pub turn-moves : (x i j : ℕ) → i < 8 → j < 8 → bitOf (byteOf (turnOf x) j) i ≡ bitOf (byteOf x i) j
 unfolding turnOf

@@ -8,13 +8,12 @@ use native.Mathlib.Omega.{arith}
 use lib.Arith.{digits-lt, digits-div, digits-mod}
 use lib.ListN.{getD}
 use Rattle.places.proofs.Tabs.{getD-tab, length-tab, tab-ext, is-tab}
-use Rattle.bits.specs.Bits.{Block, bit, blockOf}
-use Rattle.bits.specs.Numbers.{bitOf, byteOf}
-use Rattle.places.specs.Numbers.{number}
-use Rattle.bits.specs.Steps.{byteAt, bytesOf, gatherOf, turnOf, gathersOf, turnsOf}
+use Rattle.bits.specs.Bits.{BitBlock, bit, blockOf, bitOf}
+use Rattle.places.specs.Numbers.{number, digit}
+use Rattle.bits.specs.InnerSteps.{byteAt, bytesOf, gatherOf, turnOf, gathersOf, turnsOf, byteOf}
 use Rattle.bits.proofs.Gathers.{strided-lt}
 use Rattle.bits.proofs.Numbers.{bit-lt, bit-mod, bit-shr, bit-number, bit-of-number, is-number}
-use Rattle.places.proofs.Digits.{number-lt, number-ext}
+use Rattle.places.proofs.Digits.{number-lt, number-ext, digit-lt}
 
 -- A bit of a block is 0 or 1.
 pub block-bit-lt : (b : List ℕ) (p : ℕ) → bit b p < 2
@@ -40,11 +39,11 @@ bit-block f small q h =
     ∙ ap f (div-add-mod' q 64)
 
 -- Its numbers are sixteen, and are below 2^64.
-pub block-block : (f : ℕ → ℕ) → ((q : ℕ) → q < 1024 → f q < 2) → Block (blockOf f)
+pub block-block : (f : ℕ → ℕ) → ((q : ℕ) → q < 1024 → f q < 2) → BitBlock (blockOf f)
 unfolding blockOf
 block-block f small =
     record {
-      long = length-tab 16 _;
+      sixteen = length-tab 16 _;
       small = λ k h. rw (getD-tab 16 (λ k. number 1 (λ i. f (k * 64 + i)) 64) k 0 h) (number-lt 1 (λ i. f (k * 64 + i)) 64 (λ i l. small (k * 64 + i) (omega arith)));
     }
 
@@ -55,24 +54,24 @@ block-ext f g e =
     tab-ext 16 _ _ 0 (λ k h. number-ext 1 (λ i. f (k * 64 + i)) (λ i. g (k * 64 + i)) 64 (λ i l. e (k * 64 + i) (omega arith)))
 
 -- A block is the one that its bits make, whatever rule gives them.
-pub is-block : (b : List ℕ) (f : ℕ → ℕ) → Block b → ((q : ℕ) → q < 1024 → bit b q ≡ f q) → b ≡ blockOf f
+pub is-block : (b : List ℕ) (f : ℕ → ℕ) → BitBlock b → ((q : ℕ) → q < 1024 → bit b q ≡ f q) → b ≡ blockOf f
 unfolding blockOf
 is-block b f whole e =
-    is-tab b 16 _ 0 (whole .long)
+    is-tab b 16 _ 0 (whole .sixteen)
     (λ k h. is-number (getD b k 0) 64 (λ i. f (k * 64 + i)) (whole .small k h) (λ i l. sym (bit-at b k i l) ∙ e (k * 64 + i) (omega arith)))
 
 -- Bit j of byte n of a block is bit n·8 + j, and a byte is below 256.
 pub byte-lt : (b : List ℕ) (n : ℕ) → byteAt b n < 256
-unfolding byteAt byteOf
-byte-lt b n = mod-lt (getD b (n / 8) 0 / 2 ^ (n % 8 * 8)) (omega arith)
+unfolding byteAt
+byte-lt b n = digit-lt 8 (getD b (n / 8) 0) (n % 8)
 
 pub byte-bit : (b : List ℕ) (n j : ℕ) → j < 8 → bitOf (byteAt b n) j ≡ bit b (n * 8 + j)
-unfolding byteAt byteOf bit
+unfolding byteAt digit bit
 byte-bit b n j h =
     let q : n / 8 ≡ (n * 8 + j) / 64 = omega arith in
-    let r : n % 8 * 8 + j ≡ (n * 8 + j) % 64 = omega arith in
-    bit-mod (getD b (n / 8) 0 / 2 ^ (n % 8 * 8)) 8 j h
-    ∙ bit-shr (getD b (n / 8) 0) (n % 8 * 8) j
+    let r : 8 * (n % 8) + j ≡ (n * 8 + j) % 64 = omega arith in
+    bit-mod (getD b (n / 8) 0 / 2 ^ (8 * (n % 8))) 8 j h
+    ∙ bit-shr (getD b (n / 8) 0) (8 * (n % 8)) j
     ∙ ap₂ (λ k i. bitOf (getD b k 0) i) q r
 
 module _ (b : List ℕ) (start step : ℕ) (room : start + 7 * step < 128) where

@@ -12,9 +12,8 @@ use lib.ListN.{length, getD}
 use lib.Pow.{pow-add, shl-exact}
 use Rattle.places.specs.Tab.{tab, over}
 use Rattle.places.proofs.Tabs.{Written, written-length, written-run, written-ext}
-use Rattle.bits.specs.Numbers.{byteOf}
 use Rattle.places.specs.Numbers.{number}
-use Rattle.bits.specs.Steps.{byteAt}
+use Rattle.bits.specs.InnerSteps.{byteAt, byteOf}
 
 -- The bytes of one number more are written.
 pub word-more : (b : List ℕ) {x y z : List ℕ} (k : ℕ) → length x ≡ 128 → k < 16 → Written 0 (k * 8) (byteAt b) x y

@@ -1,31 +1,34 @@
 -- The laws of the bits of a number, and of the number that is made of digits.
 -- Assumes nothing.
-use mathlib.Core.Path.{_≡_, sym, ap, _∙_}
+use mathlib.Core.Path.{_≡_, sym, ap, ap₂, _∙_}
 use Prim.Native.Nat.{ℕ, zero, suc, _+_, _-_, _*_, _/_, _%_, _^_, _≤_, _<_}
 use native.Mathlib.Decide.{ℕ-discrete}
-use native.Mathlib.Nat.{add-comm, zero-add, zero-div, mul-suc, mul-le-mul-left, one-mul, div-one, mod-one, mod-lt, mod-eq-of-lt, not-suc-le-zero}
-use native.Mathlib.Numerals.{one-add}
+use native.Mathlib.Nat.{add-comm, zero-add, zero-div, mul-suc, mul-le-mul-left, one-mul, div-one, mod-eq-of-lt, not-suc-le-zero}
 use native.Mathlib.Omega.{arith}
 use lib.Bits.{bitAnd, bitXor, and-shr, xor-shr, and-mod, xor-mod}
-use lib.Pow.{pow-pos, mod-pow-add, mod-mod-pow, field, shr-shr, high, low, shl-shr}
-use Rattle.places.specs.Numbers.{number}
-use Rattle.places.proofs.Digits.{number-lt, number-ext}
-use Rattle.bits.specs.Numbers.{bitOf}
+use lib.Pow.{pow-pos, mod-mod-pow, field, shr-shr, high, low, shl-shr}
+use Rattle.places.specs.Numbers.{number, digit}
+use Rattle.places.proofs.Digits.{number-lt, number-ext, digit-lt, number-digit}
+use Rattle.bits.specs.Bits.{bitOf}
 
--- A bit is 0 or 1.
+-- A bit is a digit of one bit: what is left of the number above place i, modulo 2. It is 0 or 1.
+pub bit-is : (x i : ℕ) → bitOf x i ≡ x / 2 ^ i % 2
+unfolding digit
+bit-is x i = ap (λ n. x / 2 ^ n % 2) (one-mul i)
+
 pub bit-lt : (x i : ℕ) → bitOf x i < 2
-unfolding bitOf
-bit-lt x i = mod-lt (x / 2 ^ i) (omega arith)
+bit-lt x i = digit-lt 1 x i
 
 -- What is cut off above bit p does not change it, nor does what is added above it.
 pub bit-mod : (x m p : ℕ) → p < m → bitOf (x % 2 ^ m) p ≡ bitOf x p
-unfolding bitOf
 bit-mod x m p h =
     let e : m ≡ (m - (1 + p)) + (1 + p) = omega arith in
-    sym (field (x % 2 ^ m) 1 p)
+    bit-is (x % 2 ^ m) p
+    ∙ sym (field (x % 2 ^ m) 1 p)
     ∙ ap (λ k. x % 2 ^ k % 2 ^ (1 + p) / 2 ^ p) e
     ∙ ap (λ n. n / 2 ^ p) (mod-mod-pow x (m - (1 + p)) (1 + p))
     ∙ field x 1 p
+    ∙ sym (bit-is x p)
 
 bit-below : (x y m p : ℕ) → x < 2 ^ m → p < m → bitOf (x + y * 2 ^ m) p ≡ bitOf x p
 bit-below x y m p h l =
@@ -34,25 +37,29 @@ bit-below x y m p h l =
 
 -- Shifts move bits, and a shift up puts zeros below.
 pub bit-shr : (x k p : ℕ) → bitOf (x / 2 ^ k) p ≡ bitOf x (k + p)
-unfolding bitOf
-bit-shr x k p = ap (λ n. n % 2) (shr-shr x k p)
+bit-shr x k p = bit-is (x / 2 ^ k) p ∙ ap (λ n. n % 2) (shr-shr x k p) ∙ sym (bit-is x (k + p))
 
 pub bit-shl : (x k p : ℕ) → bitOf (x * 2 ^ k) (k + p) ≡ bitOf x p
 bit-shl x k p = sym (bit-shr (x * 2 ^ k) k p) ∙ ap (λ n. bitOf n p) (shl-shr x k)
 
 pub bit-shl-below : (x k p : ℕ) → p < k → bitOf (x * 2 ^ k) p ≡ 0
-unfolding bitOf
 bit-shl-below x k p h =
-    sym (ap (λ n. bitOf n p) (zero-add (x * 2 ^ k))) ∙ bit-below 0 x k p (pow-pos k) h ∙ ap (λ n. n % 2) (zero-div (2 ^ p))
+    sym (ap (λ n. bitOf n p) (zero-add (x * 2 ^ k))) ∙ bit-below 0 x k p (pow-pos k) h ∙ bit-is 0 p ∙ ap (λ n. n % 2) (zero-div (2 ^ p))
 
 -- The operations go bit by bit.
 pub bit-and : (x y p : ℕ) → bitOf (bitAnd x y) p ≡ bitAnd (bitOf x p) (bitOf y p)
-unfolding bitOf
-bit-and x y p = ap (λ n. n % 2) (and-shr x y p) ∙ and-mod (x / 2 ^ p) (y / 2 ^ p) 1
+bit-and x y p =
+    bit-is (bitAnd x y) p
+    ∙ ap (λ n. n % 2) (and-shr x y p)
+    ∙ and-mod (x / 2 ^ p) (y / 2 ^ p) 1
+    ∙ sym (ap₂ bitAnd (bit-is x p) (bit-is y p))
 
 pub bit-xor : (x y p : ℕ) → bitOf (bitXor x y) p ≡ bitXor (bitOf x p) (bitOf y p)
-unfolding bitOf
-bit-xor x y p = ap (λ n. n % 2) (xor-shr x y p) ∙ xor-mod (x / 2 ^ p) (y / 2 ^ p) 1
+bit-xor x y p =
+    bit-is (bitXor x y) p
+    ∙ ap (λ n. n % 2) (xor-shr x y p)
+    ∙ xor-mod (x / 2 ^ p) (y / 2 ^ p) 1
+    ∙ sym (ap₂ bitXor (bit-is x p) (bit-is y p))
 
 -- Bit j of digit k is a bit of the number.
 pub bit-number : (b : ℕ) (f : ℕ → ℕ) (n : ℕ) → ((k : ℕ) → k < n → f k < 2 ^ b) → (k j : ℕ) → k < n → j < b
@@ -72,20 +79,16 @@ bit-number b f (suc n) h k j hk hj =
 
 -- The number that is made of the bits f has these bits.
 pub bit-of-number : (f : ℕ → ℕ) (n : ℕ) → ((k : ℕ) → k < n → f k < 2) → (i : ℕ) → i < n → bitOf (number 1 f n) i ≡ f i
-unfolding bitOf
 bit-of-number f n h i l =
     ap (bitOf (number 1 f n)) (omega arith)
     ∙ bit-number 1 f n h i 0 l (omega arith)
+    ∙ bit-is (f i) 0
     ∙ ap (λ m. m % 2) (div-one (f i))
     ∙ mod-eq-of-lt (h i l)
 
 -- The number that is made of the first n bits of x is x cut to n bits.
 number-bits : (x n : ℕ) → number 1 (bitOf x) n ≡ x % 2 ^ n
-unfolding number bitOf
-number-bits x zero = sym (mod-one x)
-number-bits x (suc n) =
-    rw (number-bits x n, one-mul)
-    (add-comm (x % 2 ^ n) (x / 2 ^ n % 2 * 2 ^ n) ∙ sym (mod-pow-add x 1 n) ∙ ap (λ k. x % 2 ^ k) (one-add n))
+number-bits x n = number-digit 1 x n ∙ ap (λ k. x % 2 ^ k) (one-mul n)
 
 -- A number below 2^n is the one that its bits make, whatever rule gives them.
 pub is-number : (x n : ℕ) (f : ℕ → ℕ) → x < 2 ^ n → ((i : ℕ) → i < n → bitOf x i ≡ f i) → x ≡ number 1 f n

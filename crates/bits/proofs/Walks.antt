@@ -8,7 +8,7 @@ use Rattle.places.specs.Sizes.{t64, Size}
 use Rattle.places.proofs.Every.{Same, Below, same, below}
 use Rattle.places.proofs.Places.{each}
 use Rattle.bits.specs.Bits.{goesTo, comesFrom, transposeBitsOf, untransposeBitsOf}
-use Rattle.bits.specs.Steps.{gathersOf, turnsOf, groupStart, scatterStart, unscatterStart, ungroupStart}
+use Rattle.bits.specs.InnerSteps.{gathersOf, turnsOf, groupStart, scatterStart, unscatterStart, ungroupStart}
 use Rattle.bits.proofs.Blocks.{gatherFrom, turnFrom, two-walks}
 
 -- The bytes that a walk gathers are among the 128.

@@ -18,9 +18,8 @@ ghost use mathlib.Core.Path.{_≡_};
 ghost use Prim.Native.Nat.{ℕ, _+_, _*_, _^_, _≤_, _<_};
 ghost use lib.ListN.{length};
 ghost use Rattle.places.specs.Tab.{tab, over};
-ghost use Rattle.bits.specs.Bits.{untransposeBitsOf};
-ghost use Rattle.bits.specs.Numbers.{bitOf, byteOf};
-ghost use Rattle.bits.specs.Steps.{bytesOf, gatherOf, exchangeOf, turnOf, gathersOf, turnsOf, scatterStart, unscatterStart, ungroupStart};
+ghost use Rattle.bits.specs.Bits.{untransposeBitsOf, bitOf};
+ghost use Rattle.bits.specs.InnerSteps.{bytesOf, gatherOf, exchangeOf, turnOf, gathersOf, turnsOf, scatterStart, unscatterStart, ungroupStart, byteOf};
 
 // Bit p of a block is bit p mod 64 of number p / 64, lowest first.
 pub type Block = [u64; 16];

@@ -9,7 +9,7 @@ ghost use mathlib.Core.Path.{_≡_};
 ghost use Prim.Native.Nat.{_/_};
 ghost use Rattle.places.specs.Sizes.{t16};
 ghost use Rattle.bits.specs.Bits.{transposeBitsOf};
-ghost use Rattle.bits.specs.Steps.{turnsOf, groupStart};
+ghost use Rattle.bits.specs.InnerSteps.{turnsOf, groupStart};
 
 const T: usize = 16;
 

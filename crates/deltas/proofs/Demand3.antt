@@ -21,18 +21,18 @@ use Rattle.places.specs.declared.Answer.the-variants.{Done}
 use Rattle.places.specs.Places.{place, lane, row}
 use Rattle.places.specs.Sizes.{Size, lanes}
 use Rattle.places.specs.Tab.{tab}
+use Rattle.places.specs.Takes.{answerFor}
 use Rattle.places.proofs.Places.{lane-lt, row-lt}
 use Rattle.places.proofs.Tabs.{getD-tab, length-tab, tab-ext}
-use Rattle.packing.specs.Calls.{blockAnswer, packLeaves, unpackLeaves}
-use Rattle.places.specs.Numbers.{digit, plus, minus}
+use Rattle.packing.specs.Calls.{packTakes, packLeaves, unpackLeaves}
+use Rattle.places.specs.Numbers.{digit, plus, minus, Elements}
 use Rattle.packing.specs.Packed.{wordsNumber, packOf, unpackOf}
-use Rattle.packing.proofs.Answers.{good-block}
-use Rattle.packing.proofs.Accesses.{pack-leaves, unpack-leaves}
+use Rattle.packing.proofs.Answers.{good-block, pack-leaves, unpack-leaves}
 use Rattle.packing.proofs.Rounds.{length-pack, length-unpack, unpack-at, unpack-pack, restores}
-use Rattle.deltas.specs.Calls.{deltaAnswer, deltaLeaves, undeltaLeaves, undeltaPackAnswer, undeltaPackLeaves, forPackLeaves, unforPackLeaves}
-use Rattle.deltas.specs.Deltas.{before, deltaOf, undeltaOf, undeltaPackOf, frameOf, forPackOf, unforPackOf, sumOf, Values}
+use Rattle.deltas.specs.Calls.{deltaTakes, deltaLeaves, undeltaLeaves, undeltaPackTakes, undeltaPackLeaves, forPackLeaves, unforPackLeaves}
+use Rattle.deltas.specs.Deltas.{before, deltaOf, undeltaOf, undeltaPackOf, frameOf, forPackOf, unforPackOf, sumOf}
 use Rattle.deltas.proofs.Answers.{delta-good, delta-leaves, undelta-leaves, unpack-good, undelta-pack-leaves, for-pack-leaves, unfor-pack-leaves}
-use Rattle.deltas.proofs.Lanes.{plus-minus, minus-only, minus-additive, summed-ext, values-unpack, length-delta, length-undelta, length-for-pack, rows-ext, undelta-at, unpack-row, summed-delta, delta-summed, before-lt, before-sum, summed-sum}
+use Rattle.deltas.proofs.Lanes.{plus-minus, minus-only, minus-additive, summed-ext, elements-unpack, length-delta, length-undelta, length-for-pack, rows-ext, undelta-at, unpack-row, summed-delta, delta-summed, before-lt, before-sum, summed-sum}
 
 sum-at : (t n : ℕ) (x y : List ℕ) (i : ℕ) → i < n → getD (sumOf t n x y) i 0 ≡ plus t (getD x i 0) (getD y i 0)
 sum-at t n x y i h = getD-tab n (λ i. plus t (getD x i 0) (getD y i 0)) i 0 h
@@ -41,19 +41,19 @@ sum-at t n x y i h = getD-tab n (λ i. plus t (getD x i 0) (getD y i 0)) i 0 h
 
 module _ {t : ℕ} (s : Size t) where
   -- 1. undelta gives back the block that delta took,
-  pub undelta-delta : (v b : List ℕ) → length v ≡ 1024 → Values t v → Values t b → undeltaOf t (deltaOf t v b) b ≡ v
+  pub undelta-delta : (v b : List ℕ) → length v ≡ 1024 → Elements t v → Elements t b → undeltaOf t (deltaOf t v b) b ≡ v
   undelta-delta v b e fv fb =
       rows-ext s (undeltaOf t (deltaOf t v b) b) v (length-undelta t (deltaOf t v b) b) e
       (λ r l hr hl. undelta-at s (deltaOf t v b) b l hl r hr ∙ summed-delta s v b fv fb l hl r hr)
 
   -- and delta gives back the numbers that undelta took.
-  pub delta-undelta : (n b : List ℕ) → length n ≡ 1024 → Values t n → Values t b → deltaOf t (undeltaOf t n b) b ≡ n
+  pub delta-undelta : (n b : List ℕ) → length n ≡ 1024 → Elements t n → Elements t b → deltaOf t (undeltaOf t n b) b ≡ n
   delta-undelta n b e fn fb =
       rows-ext s (deltaOf t (undeltaOf t n b) b) n (length-delta t (undeltaOf t n b) b) e
       (λ r l hr hl. delta-summed s n b fn fb l hl r hr)
 
   -- 2. The differences of two summed blocks, with their bases summed, are the sums of their differences,
-  pub delta-additive : (v v′ b b′ : List ℕ) → Values t v → Values t v′ → Values t b → Values t b′
+  pub delta-additive : (v v′ b b′ : List ℕ) → Elements t v → Elements t v′ → Elements t b → Elements t b′
       → deltaOf t (sumOf t 1024 v v′) (sumOf t (lanes t) b b′) ≡ sumOf t 1024 (deltaOf t v b) (deltaOf t v′ b′)
   unfolding deltaOf
   delta-additive v v′ b b′ fv fv′ fb fb′ =
@@ -102,7 +102,7 @@ frame-back {t} s w v reference p h =
 
 module _ {t : ℕ} (s : Size t) (w : ℕ) (hw : w ≤ t) where
   -- 5. A frame restores a place exactly when the difference there is below 2^w.
-  pub frame-restores : (v : List ℕ) (reference p : ℕ) → p < 1024 → Values t v → reference < 2 ^ t
+  pub frame-restores : (v : List ℕ) (reference p : ℕ) → p < 1024 → Elements t v → reference < 2 ^ t
       → (getD (unforPackOf t w (forPackOf t w v reference) reference) p 0 ≡ getD v p 0) ↔ (minus t (getD v p 0) reference < 2 ^ w)
   frame-restores v reference p h fv hr =
       let d : ℕ = minus t (getD v p 0) reference in
@@ -117,7 +117,7 @@ module _ {t : ℕ} (s : Size t) (w : ℕ) (hw : w ≤ t) where
 
   -- 6. A block comes back from packed differences exactly when each difference is below 2^w. Where it comes back, the unpacked differences
   -- are those of the block, because delta undoes undelta; so unpacking restored them.
-  pub delta-restores : (v b : List ℕ) → length v ≡ 1024 → Values t v → Values t b
+  pub delta-restores : (v b : List ℕ) → length v ≡ 1024 → Elements t v → Elements t b
       → (undeltaPackOf t w (packOf t w (deltaOf t v b)) b ≡ v) ↔ ((p : ℕ) → p < 1024 → getD (deltaOf t v b) p 0 < 2 ^ w)
   delta-restores v b e fv fb =
       let d : List ℕ = deltaOf t v b in
@@ -126,7 +126,7 @@ module _ {t : ℕ} (s : Size t) (w : ℕ) (hw : w ≤ t) where
       let round : (back ≡ d) ↔ ((p : ℕ) → p < 1024 → getD d p 0 < 2 ^ w) = restores s w d (length-delta t v b) in (
         (λ same.
             round .0
-            (sym (delta-undelta s back b (length-unpack t w (packOf t w d)) (values-unpack t w hw (packOf t w d)) fb)
+            (sym (delta-undelta s back b (length-unpack t w (packOf t w d)) (elements-unpack t w hw (packOf t w d)) fb)
             ∙ ap (λ x. deltaOf t x b) (sym sums ∙ same))),
         (λ small. sums ∙ ap (λ x. undeltaOf t x b) (round .1 small) ∙ undelta-delta s v b e fv fb),
       )
@@ -137,8 +137,8 @@ module _ {t : ℕ} (s : Size t) (w : ℕ) (hw : w ≤ t) where
 module _ {t : ℕ} (s : Size t) where
   -- 1. undelta leaves the block that delta took,
   pub undelta-delta-calls : (v b o o′ : List ℕ) → length v ≡ 1024 → length b ≡ lanes t → length o ≡ 1024 → length o′ ≡ 1024
-      → Values t v → Values t b
-      → (deltaAnswer t v b o ≡ Done) × (deltaAnswer t (deltaLeaves t v b o) b o′ ≡ Done) × (undeltaLeaves t (deltaLeaves t v b o) b o′ ≡ v)
+      → Elements t v → Elements t b
+      → (answerFor (deltaTakes t v b o) ≡ Done) × (answerFor (deltaTakes t (deltaLeaves t v b o) b o′) ≡ Done) × (undeltaLeaves t (deltaLeaves t v b o) b o′ ≡ v)
   undelta-delta-calls v b o o′ ev eb eo eo′ fv fb =
       let d : List ℕ = deltaOf t v b in
       rw (delta-leaves t v b o ev eo eb) (
@@ -149,8 +149,8 @@ module _ {t : ℕ} (s : Size t) where
 
   -- and delta leaves the numbers that undelta took.
   pub delta-undelta-calls : (n b o o′ : List ℕ) → length n ≡ 1024 → length b ≡ lanes t → length o ≡ 1024 → length o′ ≡ 1024
-      → Values t n → Values t b
-      → (deltaAnswer t n b o ≡ Done) × (deltaAnswer t (undeltaLeaves t n b o) b o′ ≡ Done) × (deltaLeaves t (undeltaLeaves t n b o) b o′ ≡ n)
+      → Elements t n → Elements t b
+      → (answerFor (deltaTakes t n b o) ≡ Done) × (answerFor (deltaTakes t (undeltaLeaves t n b o) b o′) ≡ Done) × (deltaLeaves t (undeltaLeaves t n b o) b o′ ≡ n)
   delta-undelta-calls n b o o′ en eb eo eo′ fn fb =
       let v : List ℕ = undeltaOf t n b in
       let ev : length v ≡ 1024 = length-undelta t n b in
@@ -162,8 +162,8 @@ module _ {t : ℕ} (s : Size t) where
 
   -- 2. What delta leaves of two summed blocks, with their bases summed, is the sum of what it leaves of each,
   pub delta-additive-calls : (v v′ b b′ o o′ o″ : List ℕ) → length v ≡ 1024 → length v′ ≡ 1024 → length b ≡ lanes t → length b′ ≡ lanes t
-      → length o ≡ 1024 → length o′ ≡ 1024 → length o″ ≡ 1024 → Values t v → Values t v′ → Values t b → Values t b′
-      → (deltaAnswer t v b o ≡ Done) × (deltaAnswer t v′ b′ o′ ≡ Done) × (deltaAnswer t (sumOf t 1024 v v′) (sumOf t (lanes t) b b′) o″ ≡ Done)
+      → length o ≡ 1024 → length o′ ≡ 1024 → length o″ ≡ 1024 → Elements t v → Elements t v′ → Elements t b → Elements t b′
+      → (answerFor (deltaTakes t v b o) ≡ Done) × (answerFor (deltaTakes t v′ b′ o′) ≡ Done) × (answerFor (deltaTakes t (sumOf t 1024 v v′) (sumOf t (lanes t) b b′) o″) ≡ Done)
       × (deltaLeaves t (sumOf t 1024 v v′) (sumOf t (lanes t) b b′) o″ ≡ sumOf t 1024 (deltaLeaves t v b o) (deltaLeaves t v′ b′ o′))
   delta-additive-calls v v′ b b′ o o′ o″ ev ev′ eb eb′ eo eo′ eo″ fv fv′ fb fb′ =
       let x : List ℕ = sumOf t 1024 v v′ in
@@ -181,7 +181,7 @@ module _ {t : ℕ} (s : Size t) where
   -- and so it is with undelta.
   pub undelta-additive-calls : (n n′ b b′ o o′ o″ : List ℕ) → length n ≡ 1024 → length n′ ≡ 1024 → length b ≡ lanes t → length b′ ≡ lanes t
       → length o ≡ 1024 → length o′ ≡ 1024 → length o″ ≡ 1024
-      → (deltaAnswer t n b o ≡ Done) × (deltaAnswer t n′ b′ o′ ≡ Done) × (deltaAnswer t (sumOf t 1024 n n′) (sumOf t (lanes t) b b′) o″ ≡ Done)
+      → (answerFor (deltaTakes t n b o) ≡ Done) × (answerFor (deltaTakes t n′ b′ o′) ≡ Done) × (answerFor (deltaTakes t (sumOf t 1024 n n′) (sumOf t (lanes t) b b′) o″) ≡ Done)
       × (undeltaLeaves t (sumOf t 1024 n n′) (sumOf t (lanes t) b b′) o″ ≡ sumOf t 1024 (undeltaLeaves t n b o) (undeltaLeaves t n′ b′ o′))
   undelta-additive-calls n n′ b b′ o o′ o″ en en′ eb eb′ eo eo′ eo″ =
       let x : List ℕ = sumOf t 1024 n n′ in
@@ -200,22 +200,22 @@ module _ {t : ℕ} (s : Size t) (w : ℕ) (hw : w ≤ t) where
   -- 3. undelta_pack leaves what undelta leaves of what unpack left.
   pub undelta-pack-calls : (packed b o o′ o″ : List ℕ) → length packed ≡ lanes t * w → length b ≡ lanes t
       → length o ≡ 1024 → length o′ ≡ 1024 → length o″ ≡ 1024
-      → (undeltaPackAnswer t w packed b o ≡ Done) × (blockAnswer t w o′ packed ≡ Done) × (deltaAnswer t (unpackLeaves t w packed o′) b o″ ≡ Done)
-      × (undeltaPackLeaves t w packed b o ≡ undeltaLeaves t (unpackLeaves t w packed o′) b o″)
+      → (answerFor (undeltaPackTakes t w o packed b) ≡ Done) × (answerFor (packTakes t w o′ packed) ≡ Done) × (answerFor (deltaTakes t (unpackLeaves t w o′ packed) b o″) ≡ Done)
+      × (undeltaPackLeaves t w o packed b ≡ undeltaLeaves t (unpackLeaves t w o′ packed) b o″)
   undelta-pack-calls packed b o o′ o″ ep eb eo eo′ eo″ =
       let n : List ℕ = unpackOf t w packed in
       let en : length n ≡ 1024 = length-unpack t w packed in
       rw (unpack-leaves t w o′ packed hw eo′ ep) (
-        unpack-good t w packed b o hw eo ep eb,
+        unpack-good t w o packed b hw eo ep eb,
         good-block t w o′ packed hw eo′ ep,
         delta-good t n b o″ en eo″ eb,
-        undelta-pack-leaves t w packed b o hw eo ep eb ∙ undelta-pack-is s w packed b ∙ sym (undelta-leaves t n b o″ en eo″ eb),
+        undelta-pack-leaves t w o packed b hw eo ep eb ∙ undelta-pack-is s w packed b ∙ sym (undelta-leaves t n b o″ en eo″ eb),
       )
 
   -- 4. unfor_pack leaves each value that unpack left plus the reference.
   pub unfor-pack-calls : (packed : List ℕ) (reference : ℕ) (o o′ : List ℕ) → length packed ≡ lanes t * w → length o ≡ 1024 → length o′ ≡ 1024
-      → (blockAnswer t w o packed ≡ Done) × (blockAnswer t w o′ packed ≡ Done)
-      × (unforPackLeaves t w packed reference o ≡ tab 1024 (λ p. plus t (getD (unpackLeaves t w packed o′) p 0) reference))
+      → (answerFor (packTakes t w o packed) ≡ Done) × (answerFor (packTakes t w o′ packed) ≡ Done)
+      × (unforPackLeaves t w o packed reference ≡ tab 1024 (λ p. plus t (getD (unpackLeaves t w o′ packed) p 0) reference))
   unfor-pack-calls packed reference o o′ ep eo eo′ = (
     good-block t w o packed hw eo ep,
     good-block t w o′ packed hw eo′ ep,
@@ -226,10 +226,10 @@ module _ {t : ℕ} (s : Size t) (w : ℕ) (hw : w ≤ t) where
 
   -- 5. unfor_pack leaves at a place the value that for_pack took there exactly when the difference there is below 2^w.
   pub frame-restores-calls : (v : List ℕ) (reference : ℕ) (k o : List ℕ) → length v ≡ 1024 → length k ≡ lanes t * w → length o ≡ 1024
-      → Values t v → reference < 2 ^ t
-      → (blockAnswer t w v k ≡ Done) × (blockAnswer t w o (forPackLeaves t w v reference k) ≡ Done)
+      → Elements t v → reference < 2 ^ t
+      → (answerFor (packTakes t w v k) ≡ Done) × (answerFor (packTakes t w o (forPackLeaves t w v k reference)) ≡ Done)
       × ((p : ℕ) → p < 1024
-      → (getD (unforPackLeaves t w (forPackLeaves t w v reference k) reference o) p 0 ≡ getD v p 0) ↔ (minus t (getD v p 0) reference < 2 ^ w))
+      → (getD (unforPackLeaves t w o (forPackLeaves t w v k reference) reference) p 0 ≡ getD v p 0) ↔ (minus t (getD v p 0) reference < 2 ^ w))
   frame-restores-calls v reference k o ev ek eo fv hr =
       let x : List ℕ = forPackOf t w v reference in
       let ex : length x ≡ lanes t * w = length-for-pack t w v reference in
@@ -241,19 +241,19 @@ module _ {t : ℕ} (s : Size t) (w : ℕ) (hw : w ≤ t) where
 
   -- 6. undelta_pack leaves the block that delta took, of what pack left, exactly when each number that delta left is below 2^w.
   pub delta-restores-calls : (v b o k o′ : List ℕ) → length v ≡ 1024 → length b ≡ lanes t
-      → length o ≡ 1024 → length k ≡ lanes t * w → length o′ ≡ 1024 → Values t v → Values t b
-      → (deltaAnswer t v b o ≡ Done) × (blockAnswer t w (deltaLeaves t v b o) k ≡ Done)
-      × (undeltaPackAnswer t w (packLeaves t w (deltaLeaves t v b o) k) b o′ ≡ Done)
-      × ((undeltaPackLeaves t w (packLeaves t w (deltaLeaves t v b o) k) b o′ ≡ v)
+      → length o ≡ 1024 → length k ≡ lanes t * w → length o′ ≡ 1024 → Elements t v → Elements t b
+      → (answerFor (deltaTakes t v b o) ≡ Done) × (answerFor (packTakes t w (deltaLeaves t v b o) k) ≡ Done)
+      × (answerFor (undeltaPackTakes t w o′ (packLeaves t w (deltaLeaves t v b o) k) b) ≡ Done)
+      × ((undeltaPackLeaves t w o′ (packLeaves t w (deltaLeaves t v b o) k) b ≡ v)
       ↔ ((p : ℕ) → p < 1024 → getD (deltaLeaves t v b o) p 0 < 2 ^ w))
   delta-restores-calls v b o k o′ ev eb eo ek eo′ fv fb =
       let d : List ℕ = deltaOf t v b in
       let x : List ℕ = packOf t w d in
       let ed : length d ≡ 1024 = length-delta t v b in
       let ex : length x ≡ lanes t * w = length-pack t w d in
-      rw (delta-leaves t v b o ev eo eb, pack-leaves t w d k hw ed ek, undelta-pack-leaves t w x b o′ hw eo′ ex eb) (
+      rw (delta-leaves t v b o ev eo eb, pack-leaves t w d k hw ed ek, undelta-pack-leaves t w o′ x b hw eo′ ex eb) (
         delta-good t v b o ev eo eb,
         good-block t w d k hw ed ek,
-        unpack-good t w x b o′ hw eo′ ex eb,
+        unpack-good t w o′ x b hw eo′ ex eb,
         delta-restores s w hw v b ev fv fb,
       )

@@ -7,10 +7,9 @@ use mathlib.Core.List.{List}
 use Prim.Native.Nat.{ℕ, zero, suc, _+_, _-_, _*_, _%_, _^_, _≤_, _<_}
 use native.Mathlib.Nat.{mod-lt, mod-eq-of-lt, mod-add-mod, add-mod, add-mod-right, le-refl, lt-of-lt-of-le}
 use native.Mathlib.Numerals.{add-one}
-use native.Mathlib.Decide.{decLt}
 use native.Mathlib.Omega.{arith}
 use lib.Dec.{eqb}
-use lib.ListN.{length, getD, List·getD-eq-default}
+use lib.ListN.{length, getD}
 use lib.Pow.{pow-pos, pow-mono}
 use lib.Seq.{ext-getD}
 use borrow.Author.Tests.{ne-eqb}
@@ -21,11 +20,12 @@ use Rattle.places.specs.Tab.{tab}
 use Rattle.places.proofs.Places.{place-row-lane, lane-lt, row-lt, lane-place, row-place, place-lt}
 use Rattle.places.proofs.Tabs.{getD-tab, length-tab, tab-ext}
 use Rattle.rows.proofs.Rows.{sub-wraps}
-use Rattle.places.specs.Numbers.{digit, plus, minus}
+use Rattle.places.specs.Numbers.{digit, plus, minus, Elements}
+use Rattle.places.proofs.Digits.{elements-of}
 use Rattle.packing.specs.Packed.{wordsNumber, unpackOf}
 use Rattle.packing.proofs.Rounds.{length-pack, length-unpack, unpack-at, unpack-fits, value-place}
 use Rattle.packing.proofs.Turns.{size-pos}
-use Rattle.deltas.specs.Deltas.{before, deltaOf, summed, undeltaOf, frameOf, forPackOf, Values}
+use Rattle.deltas.specs.Deltas.{before, deltaOf, summed, undeltaOf, frameOf, forPackOf}
 
 -- ---- sums and differences modulo 2^t
 
@@ -107,18 +107,10 @@ summed-additive t f g b c (suc r) =
 
 -- ---- lists of numbers of t bits
 
--- A list of n entries holds numbers of t bits where each entry is one: beyond its end stands 0.
-pub values-of : (t n : ℕ) (x : List ℕ) → length x ≡ n → ((i : ℕ) → i < n → getD x i 0 < 2 ^ t) → Values t x
-values-of t n x e small i =
-    elim (decLt i n) [
-      | yes h ↦ small i h
-      | no h ↦ rw (List·getD-eq-default x 0 {n = i} (omega arith)) (pow-pos t)
-    ]
-
--- So does an unpacked block, whose values have w bits, and w is at most t.
-pub values-unpack : (t w : ℕ) → w ≤ t → (packed : List ℕ) → Values t (unpackOf t w packed)
-values-unpack t w hw packed =
-    values-of t 1024 (unpackOf t w packed) (length-unpack t w packed) (λ p h. lt-of-lt-of-le (unpack-fits t w packed p h) (pow-mono hw))
+-- An unpacked block holds numbers of t bits: its values have w bits, and w is at most t.
+pub elements-unpack : (t w : ℕ) → w ≤ t → (packed : List ℕ) → Elements t (unpackOf t w packed)
+elements-unpack t w hw packed =
+    elements-of t 1024 (unpackOf t w packed) (length-unpack t w packed) (λ p h. lt-of-lt-of-le (unpack-fits t w packed p h) (pow-mono hw))
 
 -- The blocks that delta and undelta give have 1,024 numbers.
 module _ (t : ℕ) (v b : List ℕ) where
@@ -194,7 +186,7 @@ unpack-row {t} s w packed l r hl hr = unpack-at t w packed (place r l) (place-lt
 
 -- ---- a lane there and back
 
-module _ {t : ℕ} (s : Size t) (v b : List ℕ) (fv : Values t v) (fb : Values t b) (l : ℕ) (hl : l < lanes t) where
+module _ {t : ℕ} (s : Size t) (v b : List ℕ) (fv : Elements t v) (fb : Elements t b) (l : ℕ) (hl : l < lanes t) where
   -- The differences of a lane sum up to its values,
   pub summed-delta : (r : ℕ) → r < t → summed t (λ k. getD (deltaOf t v b) (place k l) 0) (getD b l 0) r ≡ getD v (place r l) 0
   unfolding summed
@@ -230,7 +222,7 @@ pick-plus t true a a′ b b′ = refl
 pick-plus t false a a′ b b′ = refl
 
 -- What stands before a place is a number of t bits.
-pub before-lt : (t : ℕ) (v b : List ℕ) → Values t v → Values t b → (p : ℕ) → before t v b p < 2 ^ t
+pub before-lt : (t : ℕ) (v b : List ℕ) → Elements t v → Elements t b → (p : ℕ) → before t v b p < 2 ^ t
 unfolding before
 before-lt t v b fv fb p =
     pick-lt (eqb (row t p) 0) (getD b (lane t p) 0) (getD v (place (row t p - 1) (lane t p)) 0) (2 ^ t)

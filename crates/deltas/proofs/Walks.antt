@@ -12,14 +12,14 @@ use Rattle.places.specs.Sizes.{Size, lanes}
 use Rattle.places.specs.Tab.{tab, over}
 use Rattle.places.proofs.Places.{each, place-lane, lane-place, row-place, lane-lt, place-lt}
 use Rattle.places.proofs.Tabs.{getD-tab, tab-ext, tab-getD}
-use Rattle.rows.specs.Blocks.{rowsOver}
+use Rattle.rows.specs.InnerBlocks.{rowsOver}
 use Rattle.rows.specs.Rows.{loadOf, addOf}
 use Rattle.rows.proofs.Blocks.{start-room, rows-after, rows-agree, Rewritten, rewritten-next}
 use Rattle.rows.proofs.Rows.{load-room, add-tab}
 use Rattle.packing.specs.Packed.{part}
 use Rattle.deltas.specs.Deltas.{summed, undeltaOf, frameOf}
 use Rattle.places.specs.Numbers.{plus, minus}
-use Rattle.deltas.specs.Walks.{sumTo, sumRow, sumAt}
+use Rattle.deltas.specs.InnerWalks.{sumTo, sumRow, sumAt}
 
 -- the row of values that stands from a row's start on
 pub values-at : (t r start : ℕ) (v : List ℕ) → start ≡ place r 0

@@ -1,42 +1,38 @@
--- What each call of deltas answers, and what it leaves in the buffer lent to it, for every input (document 01, "Numbers given back").
+-- What each call of deltas takes, and what it leaves in the buffer lent to it, for every input (document 01, "Numbers given back"). What a
+-- call answers is `answerFor` what it takes; `for_pack` and `unfor_pack` take what pack and unpack do.
 -- Assumes nothing.
-use mathlib.Core.List.{List}
-use Prim.Native.Nat.{ℕ, _*_}
-use lib.Dec.{leb}
-use Rattle.places.specs.declared.Answer.{Answer}
-use Rattle.places.specs.declared.Answer.the-variants.{Done, Width, Block, Packed, Base}
-use Rattle.places.specs.Answers.{unless, long, left}
-use Rattle.places.specs.Pick.{both}
-use Rattle.places.specs.Sizes.{lanes}
-use Rattle.packing.specs.Calls.{blockAnswer}
+use mathlib.Core.List.{List, [], _∷_}
+use Prim.Native.Nat.{ℕ}
+use Rattle.places.specs.Answers.{left}
+use Rattle.places.specs.Takes.{Taken, a-width, a-block, a-packed, a-base, answerFor}
+use Rattle.packing.specs.Calls.{packTakes}
 use Rattle.deltas.specs.Deltas.{deltaOf, undeltaOf, undeltaPackOf, forPackOf, unforPackOf}
 
--- Delta and undelta test two blocks and a base.
-unfoldable pub deltaAnswer : ℕ → List ℕ → List ℕ → List ℕ → Answer
-deltaAnswer t input base output = unless (both (long 1024 input) (long 1024 output)) Block (unless (long (lanes t) base) Base Done)
+-- Delta and undelta take two blocks and a base.
+abbrev pub deltaTakes : (t : ℕ) (input base output : List ℕ) → List Taken
+deltaTakes t input base output = a-block input ∷ a-block output ∷ a-base t base ∷ []
 
 -- Delta leaves this in its output.
-unfoldable pub deltaLeaves : ℕ → List ℕ → List ℕ → List ℕ → List ℕ
-deltaLeaves t values base output = left (deltaAnswer t values base output) (deltaOf t values base) output
+unfoldable pub deltaLeaves : (t : ℕ) (values base output : List ℕ) → List ℕ
+deltaLeaves t values base output = left (answerFor (deltaTakes t values base output)) (deltaOf t values base) output
 
 -- Undelta leaves this in its output.
-unfoldable pub undeltaLeaves : ℕ → List ℕ → List ℕ → List ℕ → List ℕ
-undeltaLeaves t numbers base output = left (deltaAnswer t numbers base output) (undeltaOf t numbers base) output
+unfoldable pub undeltaLeaves : (t : ℕ) (numbers base output : List ℕ) → List ℕ
+undeltaLeaves t numbers base output = left (answerFor (deltaTakes t numbers base output)) (undeltaOf t numbers base) output
 
--- `undelta_pack` tests a width, a block of values, a packed block and a base.
-unfoldable pub undeltaPackAnswer : ℕ → ℕ → List ℕ → List ℕ → List ℕ → Answer
-undeltaPackAnswer t w packed base values =
-    unless (leb w t) Width
-    (unless (long 1024 values) Block (unless (long (lanes t * w) packed) Packed (unless (long (lanes t) base) Base Done)))
+-- `undelta_pack` takes a width, a block of values, a packed block and a base.
+abbrev pub undeltaPackTakes : (t w : ℕ) (values packed base : List ℕ) → List Taken
+undeltaPackTakes t w values packed base = a-width t w ∷ a-block values ∷ a-packed t w packed ∷ a-base t base ∷ []
 
 -- `undelta_pack` leaves this in `values`.
-unfoldable pub undeltaPackLeaves : ℕ → ℕ → List ℕ → List ℕ → List ℕ → List ℕ
-undeltaPackLeaves t w packed base values = left (undeltaPackAnswer t w packed base values) (undeltaPackOf t w packed base) values
+unfoldable pub undeltaPackLeaves : (t w : ℕ) (values packed base : List ℕ) → List ℕ
+undeltaPackLeaves t w values packed base =
+    left (answerFor (undeltaPackTakes t w values packed base)) (undeltaPackOf t w packed base) values
 
--- `for_pack` and `unfor_pack` make the tests of pack and unpack. `for_pack` leaves this in `packed`.
-unfoldable pub forPackLeaves : ℕ → ℕ → List ℕ → ℕ → List ℕ → List ℕ
-forPackLeaves t w values reference packed = left (blockAnswer t w values packed) (forPackOf t w values reference) packed
+-- `for_pack` leaves this in `packed`.
+unfoldable pub forPackLeaves : (t w : ℕ) (values packed : List ℕ) (reference : ℕ) → List ℕ
+forPackLeaves t w values packed reference = left (answerFor (packTakes t w values packed)) (forPackOf t w values reference) packed
 
 -- `unfor_pack` leaves this in `values`.
-unfoldable pub unforPackLeaves : ℕ → ℕ → List ℕ → ℕ → List ℕ → List ℕ
-unforPackLeaves t w packed reference values = left (blockAnswer t w values packed) (unforPackOf t w packed reference) values
+unfoldable pub unforPackLeaves : (t w : ℕ) (values packed : List ℕ) (reference : ℕ) → List ℕ
+unforPackLeaves t w values packed reference = left (answerFor (packTakes t w values packed)) (unforPackOf t w packed reference) values

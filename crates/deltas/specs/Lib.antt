@@ -1,3 +1,3 @@
 pub mod Calls
 pub mod Deltas
-pub mod Walks
+pub mod InnerWalks

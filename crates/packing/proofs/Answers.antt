@@ -1,118 +1,41 @@
--- What the calls answer, by the tests that they make, over the element size.
+-- What pack and unpack answer, by the tests that they make, and what they leave where they are done, over the element size.
 -- Assumes nothing.
-use mathlib.Core.Path.{_≡_, refl, sym, ap, _∙_}
-use mathlib.Core.Bool.{Bool, true, false}
+use mathlib.Core.Path.{_≡_, ap}
 use mathlib.Core.List.{List}
-use mathlib.Core.Logic.{_⊎_, ⊎-elim}
-use Prim.Native.Nat.{ℕ, zero, suc, _*_, _≤_, _<_}
-use native.Mathlib.Omega.{arith}
-use lib.Dec.{eqb}
-use lib.ListN.{length, getD}
-use borrow.Author.Tests.{le-leb, lt-leb, le-ltb, lt-ltb, eq-eqb, ne-eqb}
-use Rattle.places.specs.declared.Answer.{Answer}
-use Rattle.places.specs.declared.Answer.the-variants.{Done, Width, Block, Packed, Lists, Index}
-use Rattle.places.specs.Answers.{unless}
-use Rattle.places.specs.Pick.{either}
-use Rattle.places.specs.Search.{firstBeyond}
+use Prim.Native.Nat.{ℕ, _*_, _≤_, _<_}
+use lib.ListN.{length}
+use borrow.Author.Tests.{le-leb, lt-leb, eq-eqb, ne-eqb}
+use Rattle.places.specs.declared.Answer.the-variants.{Done, Width, Block, Packed}
+use Rattle.places.specs.Answers.{left}
 use Rattle.places.specs.Sizes.{lanes}
-use Rattle.places.proofs.Search.{first-beyond-before}
-use Rattle.packing.specs.Calls.{blockAnswer, indexAnswer, single, singleAnswer, singleOf, listAnswer}
-use Rattle.packing.specs.Packed.{valueAt}
-use Rattle.packing.proofs.Rounds.{value-zero}
+use Rattle.places.specs.Takes.{answerFor}
+use Rattle.packing.specs.Calls.{packTakes, packLeaves, unpackLeaves}
+use Rattle.packing.specs.Packed.{packOf, unpackOf}
 
 -- a width, a block of values and a packed block
 
 module _ (t w : ℕ) (values packed : List ℕ) where
-  pub bad-width : t < w → blockAnswer t w values packed ≡ Width
-  unfolding blockAnswer
+  pub bad-width : t < w → answerFor (packTakes t w values packed) ≡ Width
+  unfolding answerFor
   bad-width h = simp (lt-leb w t h)
 
-  pub bad-block : w ≤ t → (length values ≡ 1024 → ⊥) → blockAnswer t w values packed ≡ Block
-  unfolding blockAnswer
+  pub bad-block : w ≤ t → (length values ≡ 1024 → ⊥) → answerFor (packTakes t w values packed) ≡ Block
+  unfolding answerFor
   bad-block h b = simp (le-leb w t h, ne-eqb (length values) 1024 b)
 
-  pub bad-packed : w ≤ t → length values ≡ 1024 → (length packed ≡ lanes t * w → ⊥) → blockAnswer t w values packed ≡ Packed
-  unfolding blockAnswer
+  pub bad-packed : w ≤ t → length values ≡ 1024 → (length packed ≡ lanes t * w → ⊥) → answerFor (packTakes t w values packed) ≡ Packed
+  unfolding answerFor
   bad-packed h e b = simp (le-leb w t h, eq-eqb (length values) 1024 e, ne-eqb (length packed) (lanes t * w) b)
 
-  pub good-block : w ≤ t → length values ≡ 1024 → length packed ≡ lanes t * w → blockAnswer t w values packed ≡ Done
-  unfolding blockAnswer
+  pub good-block : w ≤ t → length values ≡ 1024 → length packed ≡ lanes t * w → answerFor (packTakes t w values packed) ≡ Done
+  unfolding answerFor
   good-block h e f = simp (le-leb w t h, eq-eqb (length values) 1024 e, eq-eqb (length packed) (lanes t * w) f)
 
--- single access
+  module _ (h : w ≤ t) (ev : length values ≡ 1024) (ep : length packed ≡ lanes t * w) where
+    pub pack-leaves : packLeaves t w values packed ≡ packOf t w values
+    unfolding packLeaves
+    pack-leaves = ap (λ a. left a (packOf t w values) packed) (good-block h ev ep)
 
-pub index-in : (w i : ℕ) → i < 1024 → indexAnswer w i ≡ Done
-unfolding indexAnswer
-index-in zero i h = refl
-index-in (suc w) i h = simp (ne-eqb (suc w) 0 (λ e. omega arith), lt-ltb i 1024 h)
-
-pub index-none : (i : ℕ) → indexAnswer 0 i ≡ Done
-unfolding indexAnswer
-index-none i = refl
-
--- an index past the block's end
-pub index-past : {S : Type 0} (value : ℕ → S) (refused : Answer → S) (t w : ℕ) (packed : List ℕ) (i : ℕ) → 1024 ≤ i
-    → single value refused (indexAnswer w 1024) 0 ≡ single value refused (indexAnswer w i) (valueAt t w packed i)
-unfolding indexAnswer
-index-past value refused t zero packed i h = ap value (sym (value-zero t packed i))
-index-past value refused t (suc w) packed i h = simp (ne-eqb (suc w) 0 (λ e. omega arith), le-ltb i 1024 h)
-
-module _ {S : Type 0} (value : ℕ → S) (refused : Answer → S) (t w : ℕ) (packed : List ℕ) (i : ℕ) where
-  pub single-bad-width : t < w → singleOf value refused t w packed i ≡ refused Width
-  unfolding singleOf singleAnswer
-  single-bad-width h = simp (lt-leb w t h)
-
-  pub single-bad-packed : w ≤ t → (length packed ≡ lanes t * w → ⊥) → singleOf value refused t w packed i ≡ refused Packed
-  unfolding singleOf singleAnswer
-  single-bad-packed h b = simp (le-leb w t h, ne-eqb (length packed) (lanes t * w) b)
-
-  pub single-good : w ≤ t → length packed ≡ lanes t * w
-      → single value refused (indexAnswer w i) (valueAt t w packed i) ≡ singleOf value refused t w packed i
-  unfolding singleOf singleAnswer
-  single-good h e = simp (le-leb w t h, eq-eqb (length packed) (lanes t * w) e)
-
--- access by a list
-
-always : (b : Bool) (a : Answer) → unless (either b true) a Done ≡ Done
-always true a = refl
-always false a = refl
-
-module _ (t w : ℕ) (packed indices out : List ℕ) where
-  pub list-bad-width : t < w → listAnswer t w packed indices out ≡ Width
-  unfolding listAnswer
-  list-bad-width h = simp (lt-leb w t h)
-
-  pub list-bad-packed : w ≤ t → (length packed ≡ lanes t * w → ⊥) → listAnswer t w packed indices out ≡ Packed
-  unfolding listAnswer
-  list-bad-packed h b = simp (le-leb w t h, ne-eqb (length packed) (lanes t * w) b)
-
-  pub list-bad-lists : w ≤ t → length packed ≡ lanes t * w → (length out ≡ length indices → ⊥) → listAnswer t w packed indices out ≡ Lists
-  unfolding listAnswer
-  list-bad-lists h e b = simp (le-leb w t h, eq-eqb (length packed) (lanes t * w) e, ne-eqb (length out) (length indices) b)
-
-  pub list-bad-index : w ≤ t → length packed ≡ lanes t * w → length out ≡ length indices → 0 < w → firstBeyond 1024 indices < length indices
-      → listAnswer t w packed indices out ≡ Index (firstBeyond 1024 indices)
-  unfolding listAnswer
-  list-bad-index h e f pos b =
-      simp (
-        le-leb w t h,
-        eq-eqb (length packed) (lanes t * w) e,
-        eq-eqb (length out) (length indices) f,
-        ne-eqb w 0 (λ z. omega arith),
-        ne-eqb (firstBeyond 1024 indices) (length indices) (λ z. omega arith),
-      )
-
-  -- each index is below 1,024, or the width is 0
-  pub list-good : w ≤ t → length packed ≡ lanes t * w → length out ≡ length indices → (w ≡ 0) ⊎ (firstBeyond 1024 indices ≡ length indices)
-      → listAnswer t w packed indices out ≡ Done
-  unfolding listAnswer
-  list-good h e f good =
-      simp (le-leb w t h, eq-eqb (length packed) (lanes t * w) e, eq-eqb (length out) (length indices) f)
-      (⊎-elim (λ z. simp (eq-eqb w 0 z)) (λ z. simp (eq-eqb (firstBeyond 1024 indices) (length indices) z) (always (eqb w 0) _)) good)
-
-  pub indices-good : (w ≡ 0) ⊎ (firstBeyond 1024 indices ≡ length indices) → (i : ℕ) → i < length indices → indexAnswer w (getD indices i 0) ≡ Done
-  indices-good good i h =
-      ⊎-elim
-      (λ z. ap (λ w. indexAnswer w (getD indices i 0)) z ∙ index-none (getD indices i 0))
-      (λ z. index-in w (getD indices i 0) (first-beyond-before 1024 indices i (omega arith)))
-      good
+    pub unpack-leaves : unpackLeaves t w values packed ≡ unpackOf t w packed
+    unfolding unpackLeaves
+    unpack-leaves = ap (λ a. left a (unpackOf t w packed) values) (good-block h ev ep)

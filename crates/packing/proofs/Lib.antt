@@ -1,5 +1,5 @@
-pub mod Accesses
 pub mod Answers
+pub mod Calls
 pub mod Rounds
 pub mod Steps
 pub mod Turns

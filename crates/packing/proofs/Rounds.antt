@@ -16,9 +16,9 @@ use Rattle.places.specs.Sizes.{Size, lanes}
 use Rattle.places.specs.Tab.{tab, tabFrom}
 use Rattle.places.proofs.Places.{each, size-lanes, place-row-lane, lane-lt, row-lt, lane-place, row-place, place-lt}
 use Rattle.places.proofs.Tabs.{getD-tab, length-tab, tab-ext, is-tab}
-use Rattle.places.specs.Numbers.{digit}
-use Rattle.packing.specs.Packed.{word, part, wordsNumber, valuesNumber, wordAt, packOf, valueAt, unpackOf, Words}
-use Rattle.places.proofs.Digits.{number-lt, number-ext, digit-lt, digit-number, number-digits}
+use Rattle.places.specs.Numbers.{digit, Elements}
+use Rattle.packing.specs.Packed.{word, part, wordsNumber, valuesNumber, wordAt, packOf, valueAt, unpackOf}
+use Rattle.places.proofs.Digits.{number-lt, number-ext, digit-lt, digit-number, number-digits, elements-of}
 
 module _ (t w : ℕ) where
   -- A packed block has w words for each lane.
@@ -33,8 +33,10 @@ module _ (t w : ℕ) where
   pack-at values i h = getD-tab (lanes t * w) (λ i. digit t (valuesNumber t w values (i % lanes t)) (i / lanes t)) i 0 h
 
   -- Each entry is a number of t bits.
-  pub pack-fits : (values : List ℕ) → Words t w (packOf t w values)
-  pack-fits values i h = rw (pack-at values i h) (digit-lt t (valuesNumber t w values (i % lanes t)) (i / lanes t))
+  pub pack-fits : (values : List ℕ) → Elements t (packOf t w values)
+  pack-fits values =
+      elements-of t (lanes t * w) (packOf t w values) (length-pack values)
+      (λ i h. rw (pack-at values i h) (digit-lt t (valuesNumber t w values (i % lanes t)) (i / lanes t)))
 
   -- An unpacked block has 1,024 values.
   pub length-unpack : (packed : List ℕ) → length (unpackOf t w packed) ≡ 1024
@@ -67,9 +69,9 @@ module _ (t w : ℕ) where
     spot-lt = rw (mul-comm (lanes t) k, mul-comm (lanes t) w) (digits-lt hk hl)
 
     -- Where the words of a block fit, each word of a lane does.
-    pub word-fits : (x : List ℕ) → Words t w x → word t x l k < 2 ^ t
+    pub word-fits : (x : List ℕ) → Elements t x → word t x l k < 2 ^ t
     unfolding word
-    word-fits x fits = fits (lanes t * k + l) spot-lt
+    word-fits x fits = fits (lanes t * k + l)
 
     -- Word k of a packed lane is digit k of the number of its values.
     pub word-pack : (values : List ℕ) → word t (packOf t w values) l k ≡ digit t (valuesNumber t w values l) k
@@ -87,12 +89,12 @@ module _ (t w : ℕ) where
         ∙ number-digits t (valuesNumber t w values l) w (values-lt values l)
 
     -- the number of the words of a lane has t * w bits
-    words-lt : (x : List ℕ) → Words t w x → wordsNumber t w x l < 2 ^ (t * w)
+    words-lt : (x : List ℕ) → Elements t x → wordsNumber t w x l < 2 ^ (t * w)
     unfolding wordsNumber
     words-lt x fits = number-lt t (word t x l) w (λ k hk. word-fits l k hl hk x fits)
 
     -- Where the words fit, the digits of their number are the words.
-    pub digit-words : (x : List ℕ) → Words t w x → (k : ℕ) → k < w → digit t (wordsNumber t w x l) k ≡ word t x l k
+    pub digit-words : (x : List ℕ) → Elements t x → (k : ℕ) → k < w → digit t (wordsNumber t w x l) k ≡ word t x l k
     unfolding wordsNumber
     digit-words x fits k hk = digit-number t (word t x l) w k (λ j hj. word-fits l j hl hj x fits) hk
 
@@ -118,7 +120,7 @@ of-word {t} s w i h = div-lt-iff-lt-mul (lanes-pos s) .1 (rw (mul-comm w (lanes 
 
 module _ {t : ℕ} (s : Size t) (w : ℕ) where
   -- The promise admits one answer: words that fit and make the sum are the packed ones.
-  pub pack-only : (x values : List ℕ) → length x ≡ lanes t * w → Words t w x
+  pub pack-only : (x values : List ℕ) → length x ≡ lanes t * w → Elements t x
       → ((l : ℕ) → l < lanes t → wordsNumber t w x l ≡ valuesNumber t w values l) → x ≡ packOf t w values
   unfolding packOf wordAt word
   pack-only x values e fits sums =
@@ -164,7 +166,7 @@ module _ {t : ℕ} (s : Size t) (w : ℕ) where
       ∙ mod-eq-of-lt (digit-lt w (wordsNumber t w packed l) r)
 
   -- The sum from the other side: in each lane the unpacked values make the number of the words.
-  pub unpack-sum : (packed : List ℕ) → Words t w packed → (l : ℕ) → l < lanes t
+  pub unpack-sum : (packed : List ℕ) → Elements t packed → (l : ℕ) → l < lanes t
       → valuesNumber t w (unpackOf t w packed) l ≡ wordsNumber t w packed l
   unfolding valuesNumber
   unpack-sum packed fits l hl =
@@ -172,7 +174,7 @@ module _ {t : ℕ} (s : Size t) (w : ℕ) where
       ∙ number-digits w (wordsNumber t w packed l) t (rw (mul-comm w t) (words-lt t w l hl packed fits))
 
   -- Packing puts back the words that a block was unpacked from.
-  pub pack-unpack : (packed : List ℕ) → length packed ≡ lanes t * w → Words t w packed → packOf t w (unpackOf t w packed) ≡ packed
+  pub pack-unpack : (packed : List ℕ) → length packed ≡ lanes t * w → Elements t packed → packOf t w (unpackOf t w packed) ≡ packed
   pack-unpack packed e fits = sym (pack-only packed (unpackOf t w packed) e fits (λ l hl. sym (unpack-sum packed fits l hl)))
 
 -- ---- the widths at the two ends
@@ -191,10 +193,15 @@ no-words (a ∷ x) e = absurd (omega arith)
 pub width-zero-only : (t : ℕ) (values x : List ℕ) → length x ≡ lanes t * 0 → x ≡ packOf t 0 values
 width-zero-only t values x e = no-words x (e ∙ mul-zero (lanes t)) ∙ sym (width-zero-pack t values)
 
--- At width 0 every value is zero, at whatever index it is asked for.
+-- A digit of no bits is 0,
+pub digit-zero : (m r : ℕ) → digit 0 m r ≡ 0
+unfolding digit
+digit-zero m r = mod-one (m / 2 ^ (0 * r))
+
+-- so at width 0 every value is zero, at whatever index it is asked for.
 pub value-zero : (t : ℕ) (packed : List ℕ) (p : ℕ) → valueAt t 0 packed p ≡ 0
-unfolding valueAt digit
-value-zero t packed p = mod-one (wordsNumber t 0 packed (lane t p) / 2 ^ (0 * row t p))
+unfolding valueAt
+value-zero t packed p = digit-zero (wordsNumber t 0 packed (lane t p)) (row t p)
 
 pub width-zero-unpack : (t : ℕ) (packed : List ℕ) → unpackOf t 0 packed ≡ tab 1024 (λ _. 0)
 unfolding unpackOf
@@ -225,6 +232,6 @@ module _ {t : ℕ} (s : Size t) where
       mod-eq-of-lt (small (place k l) (place-lt s k l (of-word s t i (rw full h)) (of-lane s i))))
 
   -- And unpacking copies the words.
-  pub width-full-unpack : (packed : List ℕ) → Words t t packed → (p : ℕ) → p < 1024 → valueAt t t packed p ≡ word t packed (lane t p) (row t p)
+  pub width-full-unpack : (packed : List ℕ) → Elements t packed → (p : ℕ) → p < 1024 → valueAt t t packed p ≡ word t packed (lane t p) (row t p)
   unfolding valueAt
   width-full-unpack packed fits p h = digit-words t t (lane t p) (lane-lt s p h) packed fits (row t p) (row-lt s p h)

@@ -12,7 +12,7 @@ use lib.Arith.{digits-div, digits-mod}
 use lib.Bits.{bitOr, or-shifted-r}
 use lib.Pow.{pow-pos, pow-mono, pow-add, mod-pow-add, mod-mod-pow, high, low, shr-shr, shr-lt}
 use Rattle.places.specs.Numbers.{number, digit}
-use Rattle.packing.specs.Walks.{held}
+use Rattle.packing.specs.InnerWalks.{held}
 use Rattle.places.proofs.Digits.{number-lt, number-split, digit-number, digit-from}
 
 -- a power as two

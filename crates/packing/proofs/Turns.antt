@@ -17,9 +17,9 @@ use Rattle.places.proofs.Places.{each, place-lane}
 use Rattle.places.proofs.Tabs.{length-tab, tab-ext, tab-append, length-over}
 use Rattle.rows.specs.Rows.{splatOf, shrOf, orShlOf, maskOf}
 use Rattle.rows.proofs.Rows.{shr-tab, mask-tab, or-shl-tab}
-use Rattle.places.specs.Numbers.{digit}
-use Rattle.packing.specs.Walks.{held, heldRow, Filled}
-use Rattle.packing.specs.Packed.{word, part, wordsNumber, valuesNumber, wordAt, packOf, valueAt, Words}
+use Rattle.places.specs.Numbers.{digit, Elements}
+use Rattle.packing.specs.InnerWalks.{held, heldRow, Filled}
+use Rattle.packing.specs.Packed.{word, part, wordsNumber, valuesNumber, wordAt, packOf, valueAt}
 use Rattle.places.proofs.Digits.{digit-number}
 use Rattle.packing.proofs.Rounds.{word-fits, value-place, digit-words, part-lt}
 use Rattle.packing.proofs.Steps.{word-lt, second-lt, on-word, over-word, read-one, read-two, held-zero, write-on, write-word, write-rest}
@@ -51,7 +51,7 @@ module _ {t : ℕ} (size : Size t) (w r : ℕ) (hr : r < t) (pos : 0 < w) where
   pub next-word : t < r * w % t + w → r * w / t + 1 < w
   next-word over = second-lt t w r (r * w / t) (r * w % t) (begins t w r) s-lt hr over
 
-  module _ (packed : List ℕ) (small : Words t w packed) where
+  module _ (packed : List ℕ) (small : Elements t packed) where
     lane-small : (l : ℕ) → l < lanes t → (k : ℕ) → k < w → word t packed l k < 2 ^ t
     lane-small l hl k hk = word-fits t w l k hl hk packed small
 
@@ -96,7 +96,7 @@ pub values-row : {t : ℕ} (size : Size t) (w r : ℕ) (packed : List ℕ) → r
 values-row {t} size w r packed hr = tab-ext (lanes t) _ _ 0 (λ l hl. sym (value-place size w packed l r hl hr))
 
 -- at width t the words of row r are those values themselves
-pub copied-row : {t : ℕ} (size : Size t) (r : ℕ) (packed : List ℕ) → Words t t packed → r < t
+pub copied-row : {t : ℕ} (size : Size t) (r : ℕ) (packed : List ℕ) → Elements t packed → r < t
     → wordRow t packed r ≡ tab (lanes t) (λ l. valueAt t t packed (place r l))
 unfolding word
 copied-row {t} size r packed small hr =
@@ -116,13 +116,13 @@ masked-row t w r start values e =
 -- no row of words is filled yet
 pub filled-none : {t w : ℕ} {values packed : List ℕ} → length packed ≡ lanes t * w → Filled t w values 0 packed
 unfolding tab tabFrom
-filled-none {t} e = record { long = e; front = rw mul-zero }
+filled-none {t} e = record { fits = e; front = rw mul-zero }
 
 -- all are filled
 pub filled-all : {t w : ℕ} {values packed : List ℕ} (k : ℕ) → k ≡ w → Filled t w values k packed → packed ≡ packOf t w values
 unfolding packOf
 filled-all {t} {w} {values} {packed} k e p =
-    sym (take-all (lanes t * k) packed (le-of-eq (p .long ∙ ap (λ n. lanes t * n) (sym e))))
+    sym (take-all (lanes t * k) packed (le-of-eq (p .fits ∙ ap (λ n. lanes t * n) (sym e))))
     ∙ p .front
     ∙ ap (λ n. tab (lanes t * n) (wordAt t w values)) e
 
@@ -132,12 +132,12 @@ pub filled-next : {t w : ℕ} {values packed z row : List ℕ} (k : ℕ) → k <
 unfolding over
 filled-next {t} {w} {values} {packed} {z} {row} k h p er ez =
     let n : ℕ = lanes t * k in
-    let room : n + lanes t ≤ length packed = omega (arith, word-room t w k h, p .long) in
+    let room : n + lanes t ≤ length packed = omega (arith, word-room t w k h, p .fits) in
     let row-long : length row ≡ lanes t = ap length er ∙ length-tab (lanes t) (λ l. wordAt t w values (n + l)) in
     let e : lanes t * (k + 1) ≡ n + lanes t = ap (λ m. lanes t * m) (add-one k) ∙ mul-suc (lanes t) k in
     let front-long : length (take n packed ++ row) ≡ n + lanes t = simp (length-append, length-take) (omega arith) in
     record {
-      long = ap length ez ∙ length-over n row packed (omega arith) ∙ p .long;
+      fits = ap length ez ∙ length-over n row packed (omega arith) ∙ p .fits;
       front = ap₂ take e ez
           ∙ take-at (take n packed ++ row) (drop (n + length row) packed) (n + lanes t) front-long
           ∙ ap₂ _++_ (p .front) er

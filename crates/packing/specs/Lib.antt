@@ -1,7 +1,3 @@
 pub mod Calls
+pub mod InnerWalks
 pub mod Packed
-pub mod Walks
-pub mod t16
-pub mod t32
-pub mod t64
-pub mod t8

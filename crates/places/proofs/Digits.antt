@@ -2,13 +2,16 @@
 -- are the ones that it was made of, and the number made of the digits of m is m, cut to that many digits.
 -- Assumes nothing.
 use mathlib.Core.Path.{_≡_, refl, sym, ap, _∙_}
+use mathlib.Core.List.{List}
 use Prim.Native.Nat.{ℕ, zero, suc, _+_, _-_, _*_, _/_, _%_, _^_, _≤_, _<_}
 use native.Mathlib.Nat.{add-zero, add-suc, zero-add, add-comm, mul-zero, mul-suc, mul-add, mul-assoc, add-mul, add-sub-of-le, mod-lt, mod-one, mod-eq-of-lt, le-refl, zero-mul}
 use native.Mathlib.Numerals.{add-one}
+use native.Mathlib.Decide.{decLt}
 use native.Mathlib.Omega.{arith}
 use lib.Arith.{digits-lt}
+use lib.ListN.{length, getD, List·getD-eq-default}
 use lib.Pow.{pow-pos, pow-add, mod-pow-add, field, split, shr-shr, high, low}
-use Rattle.places.specs.Numbers.{number, digit}
+use Rattle.places.specs.Numbers.{number, digit, Elements}
 
 -- the exponent of one digit more
 pow-more : (b n : ℕ) → 2 ^ (b * suc n) ≡ 2 ^ b * 2 ^ (b * n)
@@ -74,3 +77,11 @@ number-digit b m (suc n) =
 -- So it is m where m has no more than n digits.
 pub number-digits : (b m n : ℕ) → m < 2 ^ (b * n) → number b (digit b m) n ≡ m
 number-digits b m n h = number-digit b m n ∙ mod-eq-of-lt h
+
+-- A list of n entries holds numbers of t bits where each entry is one: beyond its end stands 0.
+pub elements-of : (t n : ℕ) (x : List ℕ) → length x ≡ n → ((i : ℕ) → i < n → getD x i 0 < 2 ^ t) → Elements t x
+elements-of t n x e small i =
+    elim (decLt i n) [
+      | yes h ↦ small i h
+      | no h ↦ rw (List·getD-eq-default x 0 {n = i} (omega arith)) (pow-pos t)
+    ]

@@ -1,15 +1,18 @@
 -- The laws of places, lanes, rows and sources, each once, over the element size. A law of all 1,024 places is a test that is computed
 -- at each of them.
 -- Assumes nothing.
-use mathlib.Core.Path.{_≡_, refl, sym, ap, _∙_, subst, subst₂, subst⁻¹}
+use mathlib.Core.Path.{_≡_, refl, sym, ap, ap₂, _∙_, subst, subst₂, subst⁻¹}
 use mathlib.Core.Logic.{⊎-elim, inl, inr}
 use Prim.Native.Nat.{ℕ, _+_, _*_, _/_, _%_, _<_}
 use native.Mathlib.Nat.{add-zero}
 use native.Mathlib.Omega.{arith}
 use lib.Arith.{digits-lt, digits-div, digits-mod}
+use lib.ListN.{getD}
 use Rattle.places.specs.Sizes.{t8, t16, t32, t64, Size, lanes}
 use Rattle.places.specs.Places.{order, place, lane, row, source, target}
+use Rattle.places.specs.Tab.{tab}
 use Rattle.places.proofs.Every.{Same, Below, same, below}
+use Rattle.places.proofs.Tabs.{getD-tab}
 
 -- what holds at each of the four sizes holds at a size
 pub each : (P : ℕ → Type 0) → P t8 → P t16 → P t32 → P t64 → {t : ℕ} → Size t → P t
@@ -50,6 +53,10 @@ module _ {t : ℕ} (s : Size t) (p : ℕ) (h : p < 1024) where
   place-row-lane =
       same 1024 (λ p. place (row t p) (lane t p)) (λ p. p)
       (each (λ t. Same 1024 (λ p. place (row t p) (lane t p)) (λ p. p)) tt tt tt tt s) p h
+
+  -- and so it does with what stands in the two tables
+  pub place-tables : place (getD (tab 1024 (row t)) p 0) (getD (tab 1024 (lane t)) p 0) ≡ p
+  place-tables = ap₂ place (getD-tab 1024 (row t) p 0 h) (getD-tab 1024 (lane t) p 0 h) ∙ place-row-lane
 
   pub lane-lt : lane t p < lanes t
   unfolding lane

@@ -12,8 +12,9 @@ use borrow.Author.Tests.{eq-eqb, ne-eqb}
 use Rattle.places.specs.declared.Answer.the-variants.{Done, Block}
 use Rattle.places.specs.Places.{order, source, target}
 use Rattle.places.specs.Tab.{tab}
-use Rattle.places.specs.Transposes.{transposeOf, untransposeOf, blocksAnswer}
-use Rattle.places.specs.Walks.{walk}
+use Rattle.places.specs.Takes.{answerFor}
+use Rattle.places.specs.Transposes.{transposeOf, untransposeOf, transposeTakes}
+use Rattle.places.specs.InnerWalks.{walk}
 use Rattle.places.proofs.Every.{same}
 use Rattle.places.proofs.Places.{order-lt, source-target, target-source, source-lt, target-lt}
 use Rattle.places.proofs.Tabs.{getD-tab, is-tab, tab-ext, Written, written-ext, written-run}
@@ -129,14 +130,14 @@ transpose-untranspose v e =
 
 -- what the two calls answer, by the tests that they make
 
-pub bad-input : (i o : List ℕ) → (length i ≡ 1024 → ⊥) → blocksAnswer i o ≡ Block
-unfolding blocksAnswer
+pub bad-input : (i o : List ℕ) → (length i ≡ 1024 → ⊥) → answerFor (transposeTakes i o) ≡ Block
+unfolding answerFor
 bad-input i o h = simp (ne-eqb (length i) 1024 h)
 
-pub bad-output : (i o : List ℕ) → length i ≡ 1024 → (length o ≡ 1024 → ⊥) → blocksAnswer i o ≡ Block
-unfolding blocksAnswer
+pub bad-output : (i o : List ℕ) → length i ≡ 1024 → (length o ≡ 1024 → ⊥) → answerFor (transposeTakes i o) ≡ Block
+unfolding answerFor
 bad-output i o e h = simp (eq-eqb (length i) 1024 e, ne-eqb (length o) 1024 h)
 
-pub good-blocks : (i o : List ℕ) → length i ≡ 1024 → length o ≡ 1024 → blocksAnswer i o ≡ Done
-unfolding blocksAnswer
+pub good-blocks : (i o : List ℕ) → length i ≡ 1024 → length o ≡ 1024 → answerFor (transposeTakes i o) ≡ Done
+unfolding answerFor
 good-blocks i o e f = simp (eq-eqb (length i) 1024 e, eq-eqb (length o) 1024 f)

@@ -1,12 +1,12 @@
--- What a call answers: the table of document 01, "Numbers given back".
+-- What a call answers: the numbers and places of document 01's table, "Numbers given back", and what a call leaves in a lent buffer. The
+-- table's tests stand in Takes.
 -- Assumes nothing.
-use mathlib.Core.List.{List}
+use mathlib.Core.List.{List, [], _∷_}
 use mathlib.Core.Bool.{Bool}
 use Prim.Native.Nat.{ℕ}
 use lib.Dec.{eqb}
-use lib.ListN.{length}
 use Rattle.places.specs.declared.Answer.{Answer}
-use Rattle.places.specs.declared.Answer.the-variants.{Done, Width, Block, Packed, Base, Lists, Index, Entry}
+use Rattle.places.specs.declared.Answer.the-variants.{Done, Width, Block, Packed, Base, Lists, Index, Dictionary}
 use Rattle.places.specs.Pick.{pick}
 
 -- Each case of an answer has a number of the table.
@@ -18,7 +18,7 @@ numberOf Packed = 3
 numberOf Base = 4
 numberOf Lists = 5
 numberOf (Index p) = 6
-numberOf (Entry p) = 7
+numberOf (Dictionary p) = 7
 
 -- With the number a place is returned. It is 0 for every number but 6 and 7, which carry theirs.
 abbrev pub placeOf : Answer → ℕ
@@ -29,21 +29,22 @@ placeOf Packed = 0
 placeOf Base = 0
 placeOf Lists = 0
 placeOf (Index p) = p
-placeOf (Entry p) = p
+placeOf (Dictionary p) = p
 
--- This is one line of a call's tests: where the test holds what follows decides, and otherwise this refusal is given. A call's tests stand
--- in the order of their numbers, so the lowest number that applies is the one that is given.
-abbrev pub unless : Bool → Answer → Answer → Answer
+-- This is one line of a call's tests: where the test holds what follows decides, and otherwise this refusal is given.
+abbrev pub unless : {A : Type 0} → (test : Bool) (refusal rest : A) → A
 unless test refusal rest = pick test rest refusal
 
--- This test says that the list has n entries.
-abbrev pub long : ℕ → List ℕ → Bool
-long n l = eqb (length l) n
+-- The tests of a call stand in a list. The first one that fails gives its refusal, and where every one passes the call is done. The layers
+-- differ in what can be tested and in their answers, and all of them go through their tests so.
+abbrev pub firstRefusal : {X A : Type 0} → (passes : X → Bool) (refusal : X → A) (done : A) → List X → A
+firstRefusal passes refusal done [] = done
+firstRefusal passes refusal done (x ∷ xs) = unless (passes x) (refusal x) (firstRefusal passes refusal done xs)
 
 -- This test says that the call is done, which is number 0.
 abbrev pub isDone : Answer → Bool
 isDone a = eqb (numberOf a) 0
 
 -- This is what a lent buffer holds after a call: where the call is done what it should hold, and after a refusal what it held.
-abbrev pub left : {A : Type 0} → Answer → A → A → A
+abbrev pub left : {A : Type 0} → Answer → (new old : A) → A
 left a new old = pick (isDone a) new old

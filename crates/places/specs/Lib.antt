@@ -1,9 +1,10 @@
 pub mod Answers
+pub mod InnerWalks
 pub mod Numbers
 pub mod Pick
 pub mod Places
 pub mod Search
 pub mod Sizes
 pub mod Tab
+pub mod Takes
 pub mod Transposes
-pub mod Walks

@@ -3,7 +3,7 @@
 use mathlib.Core.Bool.{Bool, true, false}
 
 -- This is a where the test holds, and else b.
-abbrev pub pick : {A : Type 0} → Bool → A → A → A
+abbrev pub pick : {A : Type 0} → (test : Bool) (a b : A) → A
 pick true a b = a
 pick false a b = b
 

@@ -10,16 +10,16 @@ unfoldable pub order : ℕ → ℕ
 order n = getD (0 ∷ 4 ∷ 2 ∷ 6 ∷ 1 ∷ 5 ∷ 3 ∷ 7 ∷ []) n 0
 
 -- Row r of lane l stands at this place.
-unfoldable pub place : ℕ → ℕ → ℕ
+unfoldable pub place : (r l : ℕ) → ℕ
 place r l = order (r / 8) * 16 + (r % 8) * 128 + l
 
 -- This is the lane of a place, at element size t.
-unfoldable pub lane : ℕ → ℕ → ℕ
+unfoldable pub lane : (t p : ℕ) → ℕ
 lane t p = p % lanes t
 
 -- This is its row. That a place has no other lane and row is a law: `place` takes the two back to the place, and they take every
 -- `place r l` back to l and r.
-unfoldable pub row : ℕ → ℕ → ℕ
+unfoldable pub row : (t p : ℕ) → ℕ
 row t p = order ((p % 128 - lane t p) / 16) * 8 + p / 128
 
 -- This is the source of place i under the value transpose.

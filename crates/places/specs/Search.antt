@@ -6,6 +6,6 @@ use lib.Dec.{ltb}
 use Rattle.places.specs.Pick.{pick}
 
 -- This is the lowest place whose number is n or more, and the list's length where there is none.
-unfoldable pub firstBeyond : ℕ → List ℕ → ℕ
+unfoldable pub firstBeyond : (limit : ℕ) (list : List ℕ) → ℕ
 firstBeyond n [] = 0
 firstBeyond n (x ∷ xs) = pick (ltb x n) (suc (firstBeyond n xs)) 0

@@ -6,7 +6,7 @@ use Prim.Native.Nat.{ℕ, zero, suc, _+_}
 use lib.ListN.{length, take, drop}
 
 -- This list is f s, f (s + 1), .., and has n entries.
-unfoldable pub tabFrom : {A : Type 0} → ℕ → ℕ → (ℕ → A) → List A
+unfoldable pub tabFrom : {A : Type 0} → (s n : ℕ) → (ℕ → A) → List A
 tabFrom s zero f = []
 tabFrom s (suc n) f = f s ∷ tabFrom (suc s) n f
 
@@ -15,5 +15,5 @@ unfoldable pub tab : {A : Type 0} → ℕ → (ℕ → A) → List A
 tab n f = tabFrom 0 n f
 
 -- This is the list l with x written over it from place p on, where it fits.
-unfoldable pub over : {A : Type 0} → ℕ → List A → List A → List A
+unfoldable pub over : {A : Type 0} → (p : ℕ) (x l : List A) → List A
 over p x l = take p l ++ x ++ drop (p + length x) l

@@ -30,7 +30,7 @@ pub enum Answer {
     // an index is 1,024 or more; the lowest such place of the list, 0 for single access
     Index(usize),
     // a dictionary index is at or beyond the dictionary's length; the lowest such place
-    Entry(usize),
+    Dictionary(usize),
 }
 
 impl Answer {
@@ -46,7 +46,7 @@ impl Answer {
             Answer::Base => 4,
             Answer::Lists => 5,
             Answer::Index(_) => 6,
-            Answer::Entry(_) => 7,
+            Answer::Dictionary(_) => 7,
         }
     }
 
@@ -56,7 +56,7 @@ impl Answer {
     {
         match self {
             Answer::Index(p) => p,
-            Answer::Entry(p) => p,
+            Answer::Dictionary(p) => p,
             Answer::Done => 0,
             Answer::Width => 0,
             Answer::Block => 0,

@@ -14,13 +14,14 @@ use Rattle.places.specs.Answers.{numberOf, placeOf}
 use Rattle.places.specs.Search.{firstBeyond}
 use Rattle.places.specs.Sizes.{lanes}
 use Rattle.places.proofs.Search.{first-beyond-before, first-beyond-none}
-use Rattle.packing.specs.Calls.{singleAnswer, singleOf, listAnswer, listLeaves}
-use Rattle.packing.proofs.Accesses.{list-single, list-refused}
+use Rattle.places.specs.Takes.{answerFor}
+use Rattle.access.specs.Calls.{singleTakes, singleOf, listTakes, listLeaves}
+use Rattle.access.proofs.Accesses.{list-single, list-refused}
 use Rattle.promises.proofs.Numbers.{single-numbers, list-numbers}
 
 module _ (t w : ℕ) (packed indices output : List ℕ) where
   -- Where the list is done, each entry that it leaves is the value that single access gives for its index.
-  pub batch-done : {S : Type 0} (value : ℕ → S) (refused : Answer → S) → listAnswer t w packed indices output ≡ Done
+  pub batch-done : {S : Type 0} (value : ℕ → S) (refused : Answer → S) → answerFor (listTakes t w packed indices output) ≡ Done
       → (i : ℕ) → i < length indices
       → singleOf value refused t w packed (getD indices i 0) ≡ value (getD (listLeaves t w packed indices output) i 0)
   batch-done value refused done i h =
@@ -30,7 +31,7 @@ module _ (t w : ℕ) (packed indices output : List ℕ) where
 
   module _ (hw : w ≤ t) (ep : length packed ≡ lanes t * w) (eo : length output ≡ length indices) where
     -- An entry is refused only where the width is above 0 and its index is 1,024 or more.
-    bad-index : (i : ℕ) → (numberOf (singleAnswer t w packed i) ≡ 0 → ⊥) → (0 < w) × (1024 ≤ i)
+    bad-index : (i : ℕ) → (numberOf (answerFor (singleTakes t w packed i)) ≡ 0 → ⊥) → (0 < w) × (1024 ≤ i)
     bad-index i refused =
         let never : ((w ≡ 0) ⊎ (i < 1024)) → ⊥ = λ good. refused (single-numbers t w packed i 0 .0 .1 (hw, (ep, (good, refl))) .0) in (
           elim (decLe 1 w) [
@@ -44,8 +45,8 @@ module _ (t w : ℕ) (packed indices output : List ℕ) where
         )
 
     -- One entry that single access refuses refuses the whole list, with the lowest place of such an entry, and nothing is written.
-    pub batch-refused : (i : ℕ) → i < length indices → (numberOf (singleAnswer t w packed (getD indices i 0)) ≡ 0 → ⊥)
-        → (listAnswer t w packed indices output ≡ Index (firstBeyond 1024 indices))
+    pub batch-refused : (i : ℕ) → i < length indices → (numberOf (answerFor (singleTakes t w packed (getD indices i 0))) ≡ 0 → ⊥)
+        → (answerFor (listTakes t w packed indices output) ≡ Index (firstBeyond 1024 indices))
         × (firstBeyond 1024 indices ≤ i)
         × (listLeaves t w packed indices output ≡ output)
     batch-refused i h refused =

@@ -1,30 +1,37 @@
 -- The cases that document 01 marks P hold: one theorem over the one list, `cases-hold`. Before it stands a lemma for each kind of case. It
 -- leaves to a case only what is computed from its numbers.
 -- Assumes nothing.
+use mathlib.Core.Bool.{Bool, true, false}
 use mathlib.Core.List.{List, [], _∷_}
 use mathlib.Core.Path.{_≡_, refl, sym, ap, ap₂, _∙_, subst}
 use Prim.Native.Nat.{ℕ, zero, suc, _+_, _*_, _%_, _^_, _≤_, _<_}
 use native.Mathlib.Numerals.{add-one}
+use native.Mathlib.Decide.{decLt}
 use native.Mathlib.Omega.{arith}
-use lib.Dec.{lit<, lit≤}
-use lib.ListN.{length, getD, take}
+use lib.Dec.{eqb, lit<, lit≤}
+use lib.ListN.{length, getD, take, List·getD-eq-default}
+use lib.Pow.{pow-pos}
 use lib.Seq.{ext-getD}
-use Rattle.places.specs.Numbers.{number, digit, plus, minus}
+use borrow.Author.Tests.{ne-eqb}
+use Rattle.places.specs.Numbers.{number, digit, plus, minus, Elements}
+use Rattle.places.specs.Pick.{pick}
 use Rattle.places.specs.Places.{order, place, lane, row, source}
 use Rattle.places.specs.Sizes.{Size, lanes}
 use Rattle.places.specs.Tab.{tab, tabFrom}
 use Rattle.places.specs.Transposes.{transposeOf, untransposeOf, transposeLeaves, untransposeLeaves}
-use Rattle.places.proofs.Digits.{number-ext}
+use Rattle.places.proofs.Digits.{number-ext, elements-of}
 use Rattle.places.proofs.Every.{Same, same}
 use Rattle.places.proofs.Places.{size8, size16, size32, size64, lane-place, row-place, target-source, source-lt}
-use Rattle.places.proofs.Tabs.{getD-tab}
+use Rattle.places.proofs.Tabs.{getD-tab, length-tab}
 use Rattle.places.proofs.Walks.{good-blocks}
-use Rattle.packing.specs.declared.t8.Single.the-variants.{Value, Refused}
-use Rattle.packing.specs.Calls.{single, packLeaves}
+use Rattle.packing.specs.Calls.{packLeaves}
 use Rattle.packing.specs.Packed.{word, part, wordsNumber, valuesNumber, valueAt}
-use Rattle.packing.proofs.Accesses.{pack-leaves}
-use Rattle.packing.proofs.Answers.{single-good, index-in}
+use Rattle.packing.proofs.Answers.{pack-leaves}
 use Rattle.packing.proofs.Rounds.{word-pack}
+use Rattle.access.specs.declared.t8.Single.{Single}
+use Rattle.access.specs.declared.t8.Single.the-variants.{Value, Refused}
+use Rattle.access.specs.Calls.{single, singleOf}
+use Rattle.access.proofs.Answers.{single-good, index-in}
 use Rattle.deltas.specs.Calls.{deltaLeaves}
 use Rattle.deltas.proofs.Answers.{for-pack-leaves, unfor-pack-leaves, delta-leaves}
 use Rattle.deltas.proofs.Demand3.{frame-back}
@@ -37,7 +44,7 @@ use Rattle.runs.proofs.Rounds.{encode-counts, index-at, dictionary-first}
 use Rattle.runs.proofs.Runs.{run-same, run-new, run-value, values-count}
 use Rattle.bits.specs.Bits.{bit, goesTo, transposeBitsOf}
 use Rattle.bits.proofs.Bits.{transpose-puts}
-use Rattle.promises.specs.Cases.{Entry, _at_, Holding, Whole, Rows, wordsOf, stands, comes, packs, reads, frames, steps, runs, moves, Holds, rowsP6, blockP10, indicesP10, valuesP10, cases, All}
+use Rattle.promises.specs.Cases.{Mark, _at_, Holding, Whole, Rows, SameAt, Needed, Each, stands, comes, packs, reads, frames, steps, runs, moves, Holds, rowsP6, blockP10, indicesP10, valuesP10, cases, All}
 
 -- ---- a place, a source, and a bit
 
@@ -65,16 +72,16 @@ bit-holds {t} s p q h e = (e, λ b. ap (bit (transposeBitsOf t b)) (sym e) ∙ t
 -- ---- a packed lane, and single access
 
 -- the words of lane l, each at its place: the digits of the number that the rows make
-laneWords : (t w l : ℕ) → List ℕ → List Entry
+laneWords : (t w l : ℕ) → List ℕ → List Mark
 laneWords t w l rows = tab w (λ k. digit t (number w (λ r. getD rows r 0 % 2 ^ w) t) k at (lanes t * k + l))
 
-holding-from : (x : List ℕ) (f : ℕ → Entry) (s n : ℕ) → ((k : ℕ) → k < s + n → getD x (f k .spot) 0 ≡ f k .number)
+holding-from : (x : List ℕ) (f : ℕ → Mark) (s n : ℕ) → ((k : ℕ) → k < s + n → getD x (f k .spot) 0 ≡ f k .shows)
     → Holding x (tabFrom s n f)
 unfolding tabFrom
 holding-from x f s zero h = tt
 holding-from x f s (suc n) h = (h s (omega arith), holding-from x f (suc s) n (λ k l. h k (omega arith)))
 
-lane-holds : (t w l : ℕ) (rows : List ℕ) (words : List Entry) → w ≤ t → l < lanes t → length rows ≡ t → laneWords t w l rows ≡ words
+lane-holds : (t w l : ℕ) (rows : List ℕ) (words : List Mark) → w ≤ t → l < lanes t → length rows ≡ t → laneWords t w l rows ≡ words
     → Holds (packs t w l rows words)
 unfolding Holds laneWords tab word valuesNumber part
 lane-holds t w l rows words hw hl lr e values packed lv lp held =
@@ -86,12 +93,65 @@ lane-holds t w l rows words hw hl lr e values packed lv lp held =
     ∙ ap (λ m. digit t m k)
     (number-ext w (part w values l) (λ r. getD rows r 0 % 2 ^ w) t (λ r hr. ap (λ n. n % 2 ^ w) (held r (omega arith))))))
 
-read-holds : (t w : ℕ) (words : List Entry) (p value many : ℕ) → w ≤ t → p < 1024 → wordsOf t w (row t p) ≡ many
-    → ((packed : List ℕ) → Holding packed words → valueAt t w packed p ≡ value) → Holds (reads t w words p value many)
+-- single access within the block gives the value at its place
+read-is : (t w p : ℕ) (packed : List ℕ) → w ≤ t → p < 1024 → length packed ≡ lanes t * w
+    → singleOf Value Refused t w packed p ≡ Value (valueAt t w packed p)
+read-is t w p packed hw hp lp =
+    sym (single-good Value Refused t w packed p hw lp) ∙ ap (λ a. single Value Refused a (valueAt t w packed p)) (index-in w p hp)
+
+-- n words, all 0 but the one at k, which is b
+marked : (n k b : ℕ) → List ℕ
+marked n k b = tab n (λ i. pick (eqb i k) b 0)
+
+module _ (t n k b : ℕ) (small : b < 2 ^ t) where
+  either-small : (c : Bool) → pick c b 0 < 2 ^ t
+  either-small true = small
+  either-small false = pow-pos t
+
+  marked-fits : (length (marked n k b) ≡ n) × Elements t (marked n k b)
+  unfolding marked
+  marked-fits = (
+    length-tab n _,
+    elements-of t n (tab n (λ i. pick (eqb i k) b 0)) (length-tab n _)
+        (λ i h. rw (getD-tab n (λ i. pick (eqb i k) b 0) i 0 h) (either-small (eqb i k))),
+  )
+
+-- away from the mark every word is 0
+marked-off : (n k b i : ℕ) → (i ≡ k → ⊥) → getD (marked n k b) i 0 ≡ 0
+unfolding marked
+marked-off n k b i off =
+    elim (decLt i n) [
+      | yes h ↦ getD-tab n (λ i. pick (eqb i k) b 0) i 0 h ∙ simp (ne-eqb i k off)
+      | no h ↦ List·getD-eq-default (tab n (λ i. pick (eqb i k) b 0)) 0 {n = i} (omega (arith, length-tab n (λ i. pick (eqb i k) b 0)))
+    ]
+
+-- a mark that changes the value shows that its word is needed
+value-apart : (x y : Single) (v w : ℕ) → x ≡ Value v → y ≡ Value w → x ≡ y → v ≡ w
+value-apart x y v w p q e = cc
+
+is-needed : (t w p k b : ℕ) → w ≤ t → p < 1024 → b < 2 ^ t
+    → (valueAt t w (marked (lanes t * w) k 0) p ≡ valueAt t w (marked (lanes t * w) k b) p → ⊥) → Needed t w p k
+is-needed t w p k b hw hp small changes =
+    let none = marked-fits t (lanes t * w) k 0 (pow-pos t) in
+    let some = marked-fits t (lanes t * w) k b small in
+    record {
+      one = marked (lanes t * w) k 0;
+      other = marked (lanes t * w) k b;
+      one-fits = none;
+      other-fits = some;
+      same = λ i off. marked-off (lanes t * w) k 0 i off ∙ sym (marked-off (lanes t * w) k b i off);
+      apart = λ e. changes (value-apart _ _ _ _ (read-is t w p _ hw hp (none .0)) (read-is t w p _ hw hp (some .0)) e);
+    }
+
+read-holds : (t w : ℕ) (words : List Mark) (p value : ℕ) (from : List ℕ) → w ≤ t → p < 1024
+    → ((packed : List ℕ) → Holding packed words → valueAt t w packed p ≡ value)
+    → ((x y : List ℕ) → SameAt from x y → valueAt t w x p ≡ valueAt t w y p)
+    → Each (Needed t w p) from → Holds (reads t w words p value from)
 unfolding Holds
-read-holds t w words p value many hw hp e from = (
-  e,
-  λ packed lp held. sym (single-good Value Refused t w packed p hw lp) ∙ ap₂ (single Value Refused) (index-in w p hp) (from packed held),
+read-holds t w words p value from hw hp given same needed = (
+  (λ packed lp held. read-is t w p packed hw hp lp ∙ ap Value (given packed held)),
+  (λ x y lx ly agree. read-is t w p x hw hp lx ∙ ap Value (same x y agree) ∙ sym (read-is t w p y hw hp ly)),
+  needed,
 )
 
 -- ---- a frame
@@ -203,7 +263,7 @@ a and b = (a, b)
 infixr 20 _and_
 -- In the order of the list. P5 stands in four lines, and P8 and P11 in two each.
 pub cases-hold : All Holds cases
-unfolding order place lane row source goesTo minus plus number digit tab tabFrom laneWords word wordsNumber valueAt stepOf
+unfolding order place lane row source goesTo minus plus number digit tab tabFrom laneWords word wordsNumber valueAt stepOf marked
 cases-hold =
     place-holds size8 _ _ _ (lit< tt) (lit< tt) refl
     and place-holds size16 _ _ _ (lit< tt) (lit< tt) refl
@@ -214,7 +274,8 @@ cases-hold =
     and source-holds _ _ (lit< tt) refl
     and source-holds _ _ (lit< tt) refl
     and lane-holds _ _ _ rowsP6 _ (lit≤ tt) (lit< tt) refl refl
-    and read-holds _ _ _ _ _ _ (lit≤ tt) (lit< tt) refl (λ packed held. rw (held .0, held .1 .0, held .1 .1 .0))
+    and read-holds _ _ _ _ _ _ (lit≤ tt) (lit< tt) (λ packed held. rw (held .0, held .1 .0, held .1 .1 .0)) (λ x y agree. omega (arith, agree .0, agree .1 .0))
+    (is-needed _ _ _ _ 64 (lit≤ tt) (lit< tt) (lit< tt) (λ e. let z : _≡_ {A = ℕ} 0 1 = e in omega arith) and is-needed _ _ _ _ 1 (lit≤ tt) (lit< tt) (lit< tt) (λ e. let z : _≡_ {A = ℕ} 0 4 = e in omega arith) and tt)
     and frame-holds size8 _ _ _ _ _ (lit≤ tt) refl refl
     and frame-holds size8 _ _ _ _ _ (lit≤ tt) refl refl
     and steps-hold size8 _ _ (lit≤ tt) _ (lit≤ tt) tt

@@ -1,9 +1,9 @@
 -- Document 01's table, "Numbers given back", call by call and in plain arithmetic: when a call gives each of its numbers with place p. All
--- of it follows from the one table of specs/Tables.antt. Then the table's corners: an empty dictionary, and width 0.
+-- of it follows from the one table. Then the table's corners: an empty dictionary, and width 0.
 --
 -- In each statement `gives n` says that the call gives number n with place p. To the right of it stand first the conditions of the lower
 -- numbers, turned round since none of them applies, and then the number's own with its place. A number that has no line belongs to nothing
--- that the call takes, so the table never gives it; the call's theorem in proofs/Tables.antt says that too.
+-- that the call takes, so the table never gives it; `exactly` in proofs/Tables.antt says that too.
 -- Assumes nothing.
 use mathlib.Core.List.{List, []}
 use mathlib.Core.Logic.{_↔_, _≢_, _⊎_, inl}
@@ -16,53 +16,53 @@ use Rattle.places.specs.declared.Answer.the-variants.{Done}
 use Rattle.places.specs.Answers.{numberOf, placeOf, left}
 use Rattle.places.specs.Sizes.{lanes}
 use Rattle.places.specs.Tab.{tab}
-use Rattle.places.specs.Transposes.{blocksAnswer}
+use Rattle.places.specs.Takes.{answerFor}
+use Rattle.places.specs.Transposes.{transposeTakes}
 use Rattle.places.proofs.Tabs.{tab-ext}
-use Rattle.packing.specs.Calls.{blockAnswer, singleAnswer, single, singleOf, listAnswer, listOf, listLeaves}
+use Rattle.packing.specs.Calls.{packTakes}
 use Rattle.packing.specs.Packed.{valueAt}
-use Rattle.packing.proofs.Answers.{list-good, index-none, single-good}
 use Rattle.packing.proofs.Rounds.{value-zero}
-use Rattle.deltas.specs.Calls.{deltaAnswer, undeltaPackAnswer}
-use Rattle.runs.specs.Calls.{answerOf, encodedOf, decodeAnswer}
-use Rattle.promises.specs.Tables.{Lowest, Gives, transposeTakes, packTakes, singleTakes, listTakes}
-use Rattle.promises.specs.Tables.{deltaTakes, undeltaPackTakes, encodeTakes, decodeTakes}
-use Rattle.promises.proofs.Tables.{plainly, transpose-table, pack-table, single-table, list-table}
-use Rattle.promises.proofs.Tables.{delta-table, undelta-pack-table, encode-table, decode-table}
+use Rattle.access.specs.Calls.{singleTakes, single, singleOf, listTakes, listOf, listLeaves}
+use Rattle.access.proofs.Answers.{list-good, index-none, single-good}
+use Rattle.deltas.specs.Calls.{deltaTakes, undeltaPackTakes}
+use Rattle.runs.specs.Calls.{encodeTakes, decodeTakes}
+use Rattle.promises.specs.Tables.{Lowest, Gives}
+use Rattle.promises.proofs.Tables.{plainly}
 
 -- transpose, untranspose
 pub transpose-numbers : (input output : List ℕ) (p : ℕ)
-    → let gives : ℕ → Type 0 = λ n. Gives (blocksAnswer input output) n p in
+    → let gives : ℕ → Type 0 = λ n. Gives (answerFor (transposeTakes input output)) n p in
     (gives 0 ↔ ((length input ≡ 1024) × ((length output ≡ 1024) × (p ≡ 0))))
     × (gives 2 ↔ (((length input ≢ 1024) × (p ≡ 0)) ⊎ ((length output ≢ 1024) × (p ≡ 0))))
 transpose-numbers input output p =
-    let row = plainly (blocksAnswer input output) (transposeTakes input output) (transpose-table input output) in
+    let row = plainly (transposeTakes input output) refl in
     (row 0 p, row 2 p)
 
 -- pack, unpack, for_pack, unfor_pack
 pub pack-numbers : (t w : ℕ) (values packed : List ℕ) (p : ℕ)
-    → let gives : ℕ → Type 0 = λ n. Gives (blockAnswer t w values packed) n p in
+    → let gives : ℕ → Type 0 = λ n. Gives (answerFor (packTakes t w values packed)) n p in
     (gives 0 ↔ ((w ≤ t) × ((length values ≡ 1024) × ((length packed ≡ lanes t * w) × (p ≡ 0)))))
     × (gives 1 ↔ ((t < w) × (p ≡ 0)))
     × (gives 2 ↔ ((w ≤ t) × ((length values ≢ 1024) × (p ≡ 0))))
     × (gives 3 ↔ ((w ≤ t) × ((length values ≡ 1024) × ((length packed ≢ lanes t * w) × (p ≡ 0)))))
 pack-numbers t w values packed p =
-    let row = plainly (blockAnswer t w values packed) (packTakes t w values packed) (pack-table t w values packed) in
+    let row = plainly (packTakes t w values packed) refl in
     (row 0 p, row 1 p, row 2 p, row 3 p)
 
 -- single access
 pub single-numbers : (t w : ℕ) (packed : List ℕ) (index p : ℕ)
-    → let gives : ℕ → Type 0 = λ n. Gives (singleAnswer t w packed index) n p in
+    → let gives : ℕ → Type 0 = λ n. Gives (answerFor (singleTakes t w packed index)) n p in
     (gives 0 ↔ ((w ≤ t) × ((length packed ≡ lanes t * w) × (((w ≡ 0) ⊎ (index < 1024)) × (p ≡ 0)))))
     × (gives 1 ↔ ((t < w) × (p ≡ 0)))
     × (gives 3 ↔ ((w ≤ t) × ((length packed ≢ lanes t * w) × (p ≡ 0))))
     × (gives 6 ↔ ((w ≤ t) × ((length packed ≡ lanes t * w) × ((0 < w) × (1024 ≤ index) × (p ≡ 0)))))
 single-numbers t w packed index p =
-    let row = plainly (singleAnswer t w packed index) (singleTakes t w packed index) (single-table t w packed index) in
+    let row = plainly (singleTakes t w packed index) refl in
     (row 0 p, row 1 p, row 3 p, row 6 p)
 
 -- access by a list
 pub list-numbers : (t w : ℕ) (packed indices output : List ℕ) (p : ℕ)
-    → let gives : ℕ → Type 0 = λ n. Gives (listAnswer t w packed indices output) n p in
+    → let gives : ℕ → Type 0 = λ n. Gives (answerFor (listTakes t w packed indices output)) n p in
     let good : Type 0 = (w ≡ 0) ⊎ ((i : ℕ) → i < length indices → getD indices i 0 < 1024) in
     (gives 0 ↔ ((w ≤ t) × ((length packed ≡ lanes t * w) × ((length output ≡ length indices) × (good × (p ≡ 0))))))
     × (gives 1 ↔ ((t < w) × (p ≡ 0)))
@@ -70,56 +70,53 @@ pub list-numbers : (t w : ℕ) (packed indices output : List ℕ) (p : ℕ)
     × (gives 5 ↔ ((w ≤ t) × ((length packed ≡ lanes t * w) × ((length output ≢ length indices) × (p ≡ 0)))))
     × (gives 6 ↔ ((w ≤ t) × ((length packed ≡ lanes t * w) × ((length output ≡ length indices) × ((0 < w) × Lowest 1024 indices p)))))
 list-numbers t w packed indices output p =
-    let row = plainly (listAnswer t w packed indices output) (listTakes t w packed indices output) (list-table t w packed indices output) in
+    let row = plainly (listTakes t w packed indices output) refl in
     (row 0 p, row 1 p, row 3 p, row 5 p, row 6 p)
 
 -- delta, undelta
 pub delta-numbers : (t : ℕ) (input base output : List ℕ) (p : ℕ)
-    → let gives : ℕ → Type 0 = λ n. Gives (deltaAnswer t input base output) n p in
+    → let gives : ℕ → Type 0 = λ n. Gives (answerFor (deltaTakes t input base output)) n p in
     (gives 0 ↔ ((length input ≡ 1024) × ((length output ≡ 1024) × ((length base ≡ lanes t) × (p ≡ 0)))))
     × (gives 2 ↔ (((length input ≢ 1024) × (p ≡ 0)) ⊎ ((length output ≢ 1024) × (p ≡ 0))))
     × (gives 4 ↔ ((length input ≡ 1024) × ((length output ≡ 1024) × ((length base ≢ lanes t) × (p ≡ 0)))))
 delta-numbers t input base output p =
-    let row = plainly (deltaAnswer t input base output) (deltaTakes t input base output) (delta-table t input base output) in
+    let row = plainly (deltaTakes t input base output) refl in
     (row 0 p, row 2 p, row 4 p)
 
 -- undelta_pack
-pub undelta-pack-numbers : (t w : ℕ) (packed base values : List ℕ) (p : ℕ)
-    → let gives : ℕ → Type 0 = λ n. Gives (undeltaPackAnswer t w packed base values) n p in
+pub undelta-pack-numbers : (t w : ℕ) (values packed base : List ℕ) (p : ℕ)
+    → let gives : ℕ → Type 0 = λ n. Gives (answerFor (undeltaPackTakes t w values packed base)) n p in
     (gives 0 ↔ ((w ≤ t) × ((length values ≡ 1024) × ((length packed ≡ lanes t * w) × ((length base ≡ lanes t) × (p ≡ 0))))))
     × (gives 1 ↔ ((t < w) × (p ≡ 0)))
     × (gives 2 ↔ ((w ≤ t) × ((length values ≢ 1024) × (p ≡ 0))))
     × (gives 3 ↔ ((w ≤ t) × ((length values ≡ 1024) × ((length packed ≢ lanes t * w) × (p ≡ 0)))))
     × (gives 4 ↔ ((w ≤ t) × ((length values ≡ 1024) × ((length packed ≡ lanes t * w) × ((length base ≢ lanes t) × (p ≡ 0))))))
-undelta-pack-numbers t w packed base values p =
-    let row = plainly (undeltaPackAnswer t w packed base values) (undeltaPackTakes t w packed base values)
-    (undelta-pack-table t w packed base values) in
+undelta-pack-numbers t w values packed base p =
+    let row = plainly (undeltaPackTakes t w values packed base) refl in
     (row 0 p, row 1 p, row 2 p, row 3 p, row 4 p)
 
--- encode, of whose result the answer is a part
+-- encode
 pub encode-numbers : (values dictionary indices : List ℕ) (p : ℕ)
-    → let gives : ℕ → Type 0 = λ n. Gives (answerOf (encodedOf values dictionary indices)) n p in
+    → let gives : ℕ → Type 0 = λ n. Gives (answerFor (encodeTakes values dictionary indices)) n p in
     (gives 0 ↔ ((length values ≡ 1024) × ((length dictionary ≡ 1024) × ((length indices ≡ 1024) × (p ≡ 0)))))
     × (gives 2 ↔ (((length values ≢ 1024) × (p ≡ 0)) ⊎ (((length dictionary ≢ 1024) × (p ≡ 0)) ⊎ ((length indices ≢ 1024) × (p ≡ 0)))))
 encode-numbers values dictionary indices p =
-    let row = plainly (answerOf (encodedOf values dictionary indices)) (encodeTakes values dictionary indices)
-    (encode-table values dictionary indices) in
+    let row = plainly (encodeTakes values dictionary indices) refl in
     (row 0 p, row 2 p)
 
 -- decode
 pub decode-numbers : (dictionary indices output : List ℕ) (p : ℕ)
-    → let gives : ℕ → Type 0 = λ n. Gives (decodeAnswer dictionary indices output) n p in
+    → let gives : ℕ → Type 0 = λ n. Gives (answerFor (decodeTakes dictionary indices output)) n p in
     let good : Type 0 = (i : ℕ) → i < length indices → getD indices i 0 < length dictionary in
     (gives 0 ↔ ((length indices ≡ 1024) × ((length output ≡ 1024) × (good × (p ≡ 0)))))
     × (gives 2 ↔ (((length indices ≢ 1024) × (p ≡ 0)) ⊎ ((length output ≢ 1024) × (p ≡ 0))))
     × (gives 7 ↔ ((length indices ≡ 1024) × ((length output ≡ 1024) × Lowest (length dictionary) indices p)))
 decode-numbers dictionary indices output p =
-    let row = plainly (decodeAnswer dictionary indices output) (decodeTakes dictionary indices output)
-    (decode-table dictionary indices output) in
+    let row = plainly (decodeTakes dictionary indices output) refl in
     (row 0 p, row 2 p, row 7 p)
 
 -- An empty dictionary gives 7 at place 0, since there the first index is already beyond it.
-pub empty-dictionary : (indices output : List ℕ) → length indices ≡ 1024 → length output ≡ 1024 → Gives (decodeAnswer [] indices output) 7 0
+pub empty-dictionary : (indices output : List ℕ) → length indices ≡ 1024 → length output ≡ 1024 → Gives (answerFor (decodeTakes [] indices output)) 7 0
 empty-dictionary indices output ei eo =
     decode-numbers [] indices output 0 .2 .1
     (ei, (eo, record { within = omega arith; beyond = omega arith; earlier = λ i h. absurd (omega arith) }))
@@ -137,10 +134,10 @@ module _ (t : ℕ) (packed : List ℕ) (e : length packed ≡ 0) where
 
   -- and a list of any indices is done, with 0 at each place.
   pub list-zero : (indices output : List ℕ) → length output ≡ length indices
-      → Gives (listAnswer t 0 packed indices output) 0 0 × (listLeaves t 0 packed indices output ≡ tab (length indices) (λ _. 0))
+      → Gives (answerFor (listTakes t 0 packed indices output)) 0 0 × (listLeaves t 0 packed indices output ≡ tab (length indices) (λ _. 0))
   unfolding listLeaves listOf
   list-zero indices output eo =
-      let done : listAnswer t 0 packed indices output ≡ Done = list-good t 0 packed indices output (omega arith) none eo (inl refl) in (
+      let done : answerFor (listTakes t 0 packed indices output) ≡ Done = list-good t 0 packed indices output (omega arith) none eo (inl refl) in (
         (ap numberOf done, ap placeOf done),
         ap (λ a. left a (listOf t 0 packed indices) output) done
             ∙ tab-ext (length indices) _ _ 0 (λ i h. value-zero t packed (getD indices i 0)),

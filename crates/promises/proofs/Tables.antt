@@ -1,6 +1,5 @@
 -- The calls answer by document 01's table, "Numbers given back": each number is given, with its place, exactly when it applies and no lower
--- one does. This is shown once, for a call that tests what it takes in the order of the numbers; each call is then one line. The table
--- itself, and what each call takes, stand in specs/Tables.antt.
+-- one does. This is shown once, for every list of things taken that stands in the order of the numbers, as each call's does.
 -- Assumes nothing.
 use mathlib.Core.Bool.{Bool, true, false}
 use mathlib.Core.List.{List, [], _∷_}
@@ -12,30 +11,15 @@ use lib.Dec.{eqb, leb, ltb}
 use lib.ListN.{length, getD}
 use borrow.Author.Tests.{lt-ltb, ltb-true, ltb-false, leb-true, leb-false, eqb-true, eqb-false}
 use Rattle.places.specs.declared.Answer.{Answer}
-use Rattle.places.specs.declared.Answer.the-variants.{Done, Width, Block, Packed, Base, Lists, Index, Entry}
-use Rattle.places.specs.Answers.{numberOf, placeOf, unless, long}
+use Rattle.places.specs.declared.Answer.the-variants.{Done, Width, Block, Packed, Base, Lists, Index, Dictionary}
+use Rattle.places.specs.Answers.{numberOf, placeOf, unless}
 use Rattle.places.specs.Pick.{pick, both, either}
 use Rattle.places.specs.Search.{firstBeyond}
-use Rattle.places.specs.Sizes.{t8, t16, t32, t64, lanes}
-use Rattle.places.specs.Transposes.{blocksAnswer}
+use Rattle.places.specs.Sizes.{lanes}
+use Rattle.places.specs.Takes.{Taken, passes, refusal, answerFor}
+use Rattle.places.specs.Takes.{a-width, a-block, a-packed, a-base, two-lists, an-index, an-index-list, dictionary-indices}
 use Rattle.places.proofs.Search.{first-beyond-le, first-beyond-before, first-beyond-at, first-beyond-only, first-beyond-none}
-use Rattle.packing.specs.Calls.{blockAnswer, indexAnswer, singleAnswer, singleOf, listAnswer}
-use Rattle.packing.specs.t8 as s8
-use Rattle.packing.specs.t16 as s16
-use Rattle.packing.specs.t32 as s32
-use Rattle.packing.specs.t64 as s64
-use Rattle.packing.specs.declared.t8.Single.the-variants as v8
-use Rattle.packing.specs.declared.t16.Single.the-variants as v16
-use Rattle.packing.specs.declared.t32.Single.the-variants as v32
-use Rattle.packing.specs.declared.t64.Single.the-variants as v64
-use Rattle.packing.proofs.Accesses.{single-answers}
-use Rattle.deltas.specs.Calls.{deltaAnswer, undeltaPackAnswer}
-use Rattle.runs.specs.Calls.{answerOf, encodeAnswer, encodedOf, decodeAnswer}
-use Rattle.runs.proofs.Answers.{encode-answers}
-use Rattle.promises.specs.Tables.{Lowest, Taken, numberFor, Condition, Applies, Given, Gives, Exactly}
-use Rattle.promises.specs.Tables.{a-width, a-block, a-packed, a-base, two-lists, an-index, an-index-list, an-entry-list}
-use Rattle.promises.specs.Tables.{transposeTakes, packTakes, singleTakes, listTakes}
-use Rattle.promises.specs.Tables.{deltaTakes, undeltaPackTakes, encodeTakes, decodeTakes}
+use Rattle.promises.specs.Tables.{Lowest, numberFor, Condition, Applies, Given, Gives, Exactly}
 
 -- ---- tests
 
@@ -80,34 +64,7 @@ module _ (limit : ℕ) (list : List ℕ) where
   pub lowest-one : (p q : ℕ) → Lowest limit list p → Lowest limit list q → p ≡ q
   lowest-one p q c d = sym (lowest-only p c) ∙ lowest-only q d
 
--- ---- the tests of a call, one for each thing that it takes
-
--- The test, and the refusal where it fails, are those of the calls; that they are is seen at each call below, where the two agree by `refl`
--- or by a law on tests.
-abbrev passes : Taken → Bool
-passes (a-width t w) = leb w t
-passes (a-block values) = long 1024 values
-passes (a-packed t w words) = long (lanes t * w) words
-passes (a-base t starts) = long (lanes t) starts
-passes (two-lists list output) = long (length list) output
-passes (an-index w i) = either (eqb w 0) (ltb i 1024)
-passes (an-index-list w list) = either (eqb w 0) (eqb (firstBeyond 1024 list) (length list))
-passes (an-entry-list dictionary list) = eqb (firstBeyond (length dictionary) list) (length list)
-
-abbrev refusal : Taken → Answer
-refusal (a-width t w) = Width
-refusal (a-block values) = Block
-refusal (a-packed t w words) = Packed
-refusal (a-base t starts) = Base
-refusal (two-lists list output) = Lists
-refusal (an-index w i) = Index 0
-refusal (an-index-list w list) = Index (firstBeyond 1024 list)
-refusal (an-entry-list dictionary list) = Entry (firstBeyond (length dictionary) list)
-
--- A call tests what it takes in the order of the list.
-abbrev answerFor : List Taken → Answer
-answerFor [] = Done
-answerFor (x ∷ xs) = unless (passes x) (refusal x) (answerFor xs)
+-- ---- one thing that a call takes
 
 -- The refusal has the number of the table, which is not 0.
 numbered : (x : Taken) → (numberOf (refusal x) ≡ numberFor x) × (0 < numberFor x)
@@ -118,7 +75,7 @@ numbered (a-base t starts) = (refl, omega arith)
 numbered (two-lists list output) = (refl, omega arith)
 numbered (an-index w i) = (refl, omega arith)
 numbered (an-index-list w list) = (refl, omega arith)
-numbered (an-entry-list dictionary list) = (refl, omega arith)
+numbered (dictionary-indices dictionary list) = (refl, omega arith)
 
 -- What is taken is in order: the table's condition the other way round, in plain arithmetic.
 abbrev pub InOrder : Taken → Type 0
@@ -129,7 +86,7 @@ InOrder (a-base t starts) = length starts ≡ lanes t
 InOrder (two-lists list output) = length output ≡ length list
 InOrder (an-index w i) = (w ≡ 0) ⊎ (i < 1024)
 InOrder (an-index-list w list) = (w ≡ 0) ⊎ ((i : ℕ) → i < length list → getD list i 0 < 1024)
-InOrder (an-entry-list dictionary list) = (i : ℕ) → i < length list → getD list i 0 < length dictionary
+InOrder (dictionary-indices dictionary list) = (i : ℕ) → i < length list → getD list i 0 < length dictionary
 
 -- Where the test passes, it is,
 passed : (x : Taken) → passes x ≡ true → InOrder x
@@ -141,7 +98,7 @@ passed (two-lists list output) e = eqb-true (length output) (length list) e
 passed (an-index w i) e = ⊎-map (eqb-true w 0) (ltb-true i 1024) (either-true (eqb w 0) (ltb i 1024) e)
 passed (an-index-list w list) e =
     ⊎-map (eqb-true w 0) (all-below 1024 list) (either-true (eqb w 0) (eqb (firstBeyond 1024 list) (length list)) e)
-passed (an-entry-list dictionary list) e = all-below (length dictionary) list e
+passed (dictionary-indices dictionary list) e = all-below (length dictionary) list e
 
 -- and where it is, the condition holds at no place.
 no-condition : (x : Taken) → InOrder x → (p : ℕ) → ¬ Condition x p
@@ -152,7 +109,7 @@ no-condition (a-base t starts) o p c = c .0 o
 no-condition (two-lists list output) o p c = c .0 o
 no-condition (an-index w i) o p c = ⊎-elim (λ z. omega arith) (λ h. omega arith) o
 no-condition (an-index-list w list) o p c = ⊎-elim (λ z. omega arith) (λ all. not-lowest 1024 list all p (c .1)) o
-no-condition (an-entry-list dictionary list) o p c = not-lowest (length dictionary) list o p c
+no-condition (dictionary-indices dictionary list) o p c = not-lowest (length dictionary) list o p c
 
 positive : (w : ℕ) → eqb w 0 ≡ false → 0 < w
 positive zero e = absurd (eqb-false 0 0 e refl)
@@ -172,7 +129,7 @@ failed (an-index-list w list) e =
     let f : (eqb w 0 ≡ false) × (eqb (firstBeyond 1024 list) (length list) ≡ false) =
     either-false (eqb w 0) (eqb (firstBeyond 1024 list) (length list)) e in
     (positive w (f .0), lowest-is 1024 list (eqb-false (firstBeyond 1024 list) (length list) (f .1)))
-failed (an-entry-list dictionary list) e =
+failed (dictionary-indices dictionary list) e =
     lowest-is (length dictionary) list (eqb-false (firstBeyond (length dictionary) list) (length list) e)
 
 -- and at no other.
@@ -184,7 +141,7 @@ placed (a-base t starts) p c = sym (c .1)
 placed (two-lists list output) p c = sym (c .1)
 placed (an-index w i) p c = sym (c .2)
 placed (an-index-list w list) p c = lowest-only 1024 list p (c .1)
-placed (an-entry-list dictionary list) p c = lowest-only (length dictionary) list p c
+placed (dictionary-indices dictionary list) p c = lowest-only (length dictionary) list p c
 
 -- The place is 0 for every number but 6 and 7.
 pub place-zero : (a : Answer) → numberOf a < 6 → placeOf a ≡ 0
@@ -195,7 +152,7 @@ place-zero Packed h = refl
 place-zero Base h = refl
 place-zero Lists h = refl
 place-zero (Index p) h = absurd (omega arith)
-place-zero (Entry p) h = absurd (omega arith)
+place-zero (Dictionary p) h = absurd (omega arith)
 
 -- ---- in the order of the numbers
 
@@ -282,6 +239,7 @@ module _ (x : Taken) (xs : List Taken) where
 
 -- A call that tests what it takes in the order of the numbers answers by the table.
 pub exactly : (xs : List Taken) → ordered xs ≡ true → Exactly (answerFor xs) xs
+unfolding answerFor
 exactly [] o zero p = ((λ h. (sym (h .1), λ m q a. a)), (λ g. (refl, sym (g .0))))
 exactly [] o (suc n) p = ((λ h. absurd (omega arith)), (λ g. absurd (g .0)))
 exactly (x ∷ xs) o n p = go (passes x) refl (exactly xs (both-true (allFollow x xs) (ordered xs) o .1) n p)
@@ -295,7 +253,7 @@ exactly (x ∷ xs) o n p = go (passes x) refl (exactly xs (both-true (allFollow 
 
 -- An answer is known by its number and its place,
 abbrev answerWith : ℕ → ℕ → Answer
-answerWith n p = getD (Done ∷ Width ∷ Block ∷ Packed ∷ Base ∷ Lists ∷ Index p ∷ Entry p ∷ []) n Done
+answerWith n p = getD (Done ∷ Width ∷ Block ∷ Packed ∷ Base ∷ Lists ∷ Index p ∷ Dictionary p ∷ []) n Done
 
 known : (a : Answer) → answerWith (numberOf a) (placeOf a) ≡ a
 known Done = refl
@@ -305,7 +263,7 @@ known Packed = refl
 known Base = refl
 known Lists = refl
 known (Index p) = refl
-known (Entry p) = refl
+known (Dictionary p) = refl
 
 -- so two answers by the table, for the same things taken, are one.
 pub one-answer : (a b : Answer) (xs : List Taken) → Exactly a xs → Exactly b xs → a ≡ b
@@ -387,90 +345,6 @@ plain xs (suc n) p =
     )
     (all-kept (λ m. ltb m (suc n)) xs (OneOf (keep (λ m. eqb m (suc n)) xs) p))
 
--- What answers by the table does so in plain arithmetic.
-pub plainly : (a : Answer) (xs : List Taken) → Exactly a xs → (n p : ℕ) → Gives a n p ↔ Plain xs n p
-plainly a xs table n p = Iff·trans (table n p) (plain xs n p)
-
--- ---- each call
-
--- Two blocks that are tested together are two blocks tested one after the other.
-two-blocks : (a b : Bool) (r : Answer) → unless a Block (unless b Block r) ≡ unless (both a b) Block r
-two-blocks true b r = refl
-two-blocks false b r = refl
-
--- transpose, untranspose
-pub transpose-table : (input output : List ℕ) → Exactly (blocksAnswer input output) (transposeTakes input output)
-unfolding blocksAnswer
-transpose-table input output =
-    subst (λ a. Exactly a (transposeTakes input output)) (two-blocks (long 1024 input) (long 1024 output) Done)
-    (exactly (transposeTakes input output) refl)
-
--- pack, unpack, for_pack, unfor_pack
-pub pack-table : (t w : ℕ) (values packed : List ℕ) → Exactly (blockAnswer t w values packed) (packTakes t w values packed)
-unfolding blockAnswer
-pack-table t w values packed = exactly (packTakes t w values packed) refl
-
--- single access
-pub single-table : (t w : ℕ) (packed : List ℕ) (index : ℕ) → Exactly (singleAnswer t w packed index) (singleTakes t w packed index)
-unfolding singleAnswer indexAnswer
-single-table t w packed index = exactly (singleTakes t w packed index) refl
-
--- Single access gives a value or a refusal. However the two cases are read, the answer that is read off is the one of the table.
-pub single-call-table : {S : Type 0} (value : ℕ → S) (refused : Answer → S) (answer : S → Answer)
-    → ((v : ℕ) → answer (value v) ≡ Done) → ((a : Answer) → answer (refused a) ≡ a)
-    → (t w : ℕ) (packed : List ℕ) (index : ℕ) → Exactly (answer (singleOf value refused t w packed index)) (singleTakes t w packed index)
-single-call-table value refused answer done refuses t w packed index =
-    subst (λ a. Exactly a (singleTakes t w packed index)) (sym (single-answers value refused t w packed index answer done refuses))
-    (single-table t w packed index)
-
--- So it is at each size, with the reading that packing's specs/ give of that size's enum.
-pub single-t8 : (w : ℕ) (packed : List ℕ) (index : ℕ)
-    → Exactly (s8.answerOf (singleOf v8.Value v8.Refused t8 w packed index)) (singleTakes t8 w packed index)
-single-t8 = single-call-table v8.Value v8.Refused s8.answerOf (λ _. refl) (λ _. refl) t8
-
-pub single-t16 : (w : ℕ) (packed : List ℕ) (index : ℕ)
-    → Exactly (s16.answerOf (singleOf v16.Value v16.Refused t16 w packed index)) (singleTakes t16 w packed index)
-single-t16 = single-call-table v16.Value v16.Refused s16.answerOf (λ _. refl) (λ _. refl) t16
-
-pub single-t32 : (w : ℕ) (packed : List ℕ) (index : ℕ)
-    → Exactly (s32.answerOf (singleOf v32.Value v32.Refused t32 w packed index)) (singleTakes t32 w packed index)
-single-t32 = single-call-table v32.Value v32.Refused s32.answerOf (λ _. refl) (λ _. refl) t32
-
-pub single-t64 : (w : ℕ) (packed : List ℕ) (index : ℕ)
-    → Exactly (s64.answerOf (singleOf v64.Value v64.Refused t64 w packed index)) (singleTakes t64 w packed index)
-single-t64 = single-call-table v64.Value v64.Refused s64.answerOf (λ _. refl) (λ _. refl) t64
-
--- access by a list
-pub list-table : (t w : ℕ) (packed indices output : List ℕ)
-    → Exactly (listAnswer t w packed indices output) (listTakes t w packed indices output)
-unfolding listAnswer
-list-table t w packed indices output = exactly (listTakes t w packed indices output) refl
-
--- delta, undelta
-pub delta-table : (t : ℕ) (input base output : List ℕ)
-    → Exactly (deltaAnswer t input base output) (deltaTakes t input base output)
-unfolding deltaAnswer
-delta-table t input base output =
-    subst (λ a. Exactly a (deltaTakes t input base output))
-    (two-blocks (long 1024 input) (long 1024 output) (unless (long (lanes t) base) Base Done))
-    (exactly (deltaTakes t input base output) refl)
-
--- undelta_pack
-pub undelta-pack-table : (t w : ℕ) (packed base values : List ℕ)
-    → Exactly (undeltaPackAnswer t w packed base values) (undeltaPackTakes t w packed base values)
-unfolding undeltaPackAnswer
-undelta-pack-table t w packed base values = exactly (undeltaPackTakes t w packed base values) refl
-
--- encode, of whose result the answer is a part
-pub encode-table : (values dictionary indices : List ℕ)
-    → Exactly (answerOf (encodedOf values dictionary indices)) (encodeTakes values dictionary indices)
-unfolding encodeAnswer
-encode-table values dictionary indices =
-    subst (λ a. Exactly a (encodeTakes values dictionary indices)) (sym (encode-answers values dictionary indices))
-    (exactly (encodeTakes values dictionary indices) refl)
-
--- decode
-pub decode-table : (dictionary indices output : List ℕ)
-    → Exactly (decodeAnswer dictionary indices output) (decodeTakes dictionary indices output)
-unfolding decodeAnswer
-decode-table dictionary indices output = exactly (decodeTakes dictionary indices output) refl
+-- So a call answers by the table in plain arithmetic.
+pub plainly : (xs : List Taken) → ordered xs ≡ true → (n p : ℕ) → Gives (answerFor xs) n p ↔ Plain xs n p
+plainly xs o n p = Iff·trans (exactly xs o n p) (plain xs n p)

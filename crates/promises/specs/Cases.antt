@@ -3,33 +3,34 @@
 -- Assumes nothing.
 use mathlib.Core.List.{List, [], _∷_}
 use mathlib.Core.Path.{_≡_}
-use Prim.Native.Nat.{ℕ, _+_, _-_, _*_, _/_, _<_}
+use Prim.Native.Nat.{ℕ, _*_, _<_}
 use lib.ListN.{length, getD, take}
+use Rattle.places.specs.Numbers.{minus, Elements}
 use Rattle.places.specs.Places.{place, lane, row, source}
 use Rattle.places.specs.Sizes.{t8, t16, t32, t64, lanes}
 use Rattle.places.specs.Transposes.{transposeLeaves, untransposeLeaves}
-use Rattle.packing.specs.declared.t8.Single.the-variants.{Value, Refused}
-use Rattle.packing.specs.Calls.{packLeaves, singleOf}
+use Rattle.packing.specs.Calls.{packLeaves}
+use Rattle.access.specs.declared.t8.Single.the-variants.{Value, Refused}
+use Rattle.access.specs.Calls.{singleOf}
 use Rattle.deltas.specs.Calls.{deltaLeaves, forPackLeaves, unforPackLeaves}
-use Rattle.places.specs.Numbers.{minus}
 use Rattle.runs.specs.declared.Encoded.the-variants.{Count}
 use Rattle.runs.specs.Calls.{encodedOf, indicesLeaves, dictionaryLeaves}
 use Rattle.bits.specs.Bits.{bit, goesTo, transposeBitsOf}
 
 -- This is a number with the place of a list at which it stands.
-pub record Entry : Type 0 where
-  pub number : ℕ
+pub record Mark : Type 0 where
+  pub shows : ℕ
   pub spot : ℕ
 
 -- It is written n at p.
-abbrev pub _at_ : ℕ → ℕ → Entry
-n at p = record { number = n; spot = p }
+abbrev pub _at_ : (n p : ℕ) → Mark
+n at p = record { shows = n; spot = p }
 
 infix 75 _at_
 -- Each of these numbers stands at its place of the list x.
-abbrev pub Holding : List ℕ → List Entry → Type 0
+abbrev pub Holding : (x : List ℕ) → List Mark → Type 0
 Holding x [] = Unit
-Holding x (e ∷ es) = (getD x (e .spot) 0 ≡ e .number) × Holding x es
+Holding x (e ∷ es) = (getD x (e .spot) 0 ≡ e .shows) × Holding x es
 
 -- These are the numbers of a block: some at its front, and then one number to the end.
 pub record Stretch : Type 0 where
@@ -37,22 +38,37 @@ pub record Stretch : Type 0 where
   pub rest : ℕ
 
 -- They are written f thenOn n.
-abbrev pub _thenOn_ : List ℕ → ℕ → Stretch
+abbrev pub _thenOn_ : (f : List ℕ) (n : ℕ) → Stretch
 f thenOn n = record { front = f; rest = n }
 
 infix 60 _thenOn_
 -- The block of 1,024 numbers is this stretch.
-abbrev pub Whole : List ℕ → Stretch → Type 0
+abbrev pub Whole : (block : List ℕ) (s : Stretch) → Type 0
 Whole block s = (i : ℕ) → i < 1024 → getD block i 0 ≡ getD (s .front) i (s .rest)
 
 -- The first rows of lane l of the block hold these numbers.
-abbrev pub Rows : List ℕ → ℕ → List ℕ → Type 0
+abbrev pub Rows : (block : List ℕ) (l : ℕ) (rows : List ℕ) → Type 0
 Rows block l rows = (r : ℕ) → r < length rows → getD block (place r l) 0 ≡ getD rows r 0
 
--- Of a lane's number, the bits r·w to r·w + w − 1 are those of row r. This many of the lane's words of t bits hold some of them, for a width
--- above 0.
-abbrev pub wordsOf : ℕ → ℕ → ℕ → ℕ
-wordsOf t w r = (r * w + w - 1) / t + 1 - r * w / t
+-- Two lists hold the same at each of these places.
+abbrev pub SameAt : (places x y : List ℕ) → Type 0
+SameAt [] x y = Unit
+SameAt (k ∷ ks) x y = (getD x k 0 ≡ getD y k 0) × SameAt ks x y
+
+-- Single access at place p needs the word at k: two packed blocks that differ in that word alone give different answers. The enum is that of
+-- t 8, the one size that a case has.
+pub record Needed (t w p k : ℕ) : Type 0 where
+  pub one : List ℕ
+  pub other : List ℕ
+  pub one-fits : (length one ≡ lanes t * w) × Elements t one
+  pub other-fits : (length other ≡ lanes t * w) × Elements t other
+  pub same : (i : ℕ) → (i ≡ k → ⊥) → getD one i 0 ≡ getD other i 0
+  pub apart : singleOf Value Refused t w one p ≡ singleOf Value Refused t w other p → ⊥
+
+-- The statement holds of each number of the list.
+abbrev pub Each : (P : ℕ → Type 0) → List ℕ → Type 0
+Each P [] = Unit
+Each P (k ∷ ks) = P k × Each P ks
 
 -- These are the kinds of case. A case carries the numbers that document 01 gives for it.
 pub data Case : Type 0 where
@@ -61,9 +77,9 @@ pub data Case : Type 0 where
   -- Place i has the source j.
   comes : (i j : ℕ) → Case
   -- Lane l, with these numbers in its rows, is packed at width w to these words.
-  packs : (t w l : ℕ) (rows : List ℕ) (words : List Entry) → Case
-  -- With these packed words, single access at place p gives the value, from so many words.
-  reads : (t w : ℕ) (words : List Entry) (p value many : ℕ) → Case
+  packs : (t w l : ℕ) (rows : List ℕ) (words : List Mark) → Case
+  -- With these packed words, single access at place p gives the value, from the words at these places.
+  reads : (t w : ℕ) (words : List Mark) (p value : ℕ) (from : List ℕ) → Case
   -- The value minus the reference is the difference, and from a frame that is packed at width w comes back the result.
   frames : (t w value reference difference result : ℕ) → Case
   -- A lane with this base, and these numbers in its first rows, has these differences.
@@ -86,16 +102,19 @@ Holds (comes i j) =
 Holds (packs t w l rows words) =
     (values packed : List ℕ) → length values ≡ 1024 → length packed ≡ lanes t * w
     → Rows values l rows → Holding (packLeaves t w values packed) words
--- Whatever the other words are, single access gives the value. The one such case has t 8, so the answer is of that size's enum.
-Holds (reads t w words p value many) =
-    (wordsOf t w (row t p) ≡ many)
-    × ((packed : List ℕ) → length packed ≡ lanes t * w → Holding packed words → singleOf Value Refused t w packed p ≡ Value value)
+-- Whatever the other words are, single access gives the value. What it gives depends on no other words than those named, and on each of them.
+-- The one such case has t 8, so the answer is of that size's enum.
+Holds (reads t w words p value from) =
+    ((packed : List ℕ) → length packed ≡ lanes t * w → Holding packed words → singleOf Value Refused t w packed p ≡ Value value)
+    × ((x y : List ℕ) → length x ≡ lanes t * w → length y ≡ lanes t * w → SameAt from x y
+    → singleOf Value Refused t w x p ≡ singleOf Value Refused t w y p)
+    × Each (Needed t w p) from
 -- Wherever in a block the value stands, unfor_pack after for_pack leaves the result there.
 Holds (frames t w value reference difference result) =
     (minus t value reference ≡ difference)
     × ((values packed output : List ℕ) → length values ≡ 1024 → length packed ≡ lanes t * w → length output ≡ 1024
     → (p : ℕ) → p < 1024 → getD values p 0 ≡ value
-    → getD (unforPackLeaves t w (forPackLeaves t w values reference packed) reference output) p 0 ≡ result)
+    → getD (unforPackLeaves t w output (forPackLeaves t w values packed reference) reference) p 0 ≡ result)
 -- In whichever lane the base and the rows stand, delta leaves the differences in these rows.
 Holds (steps t base rows differences) =
     (values bases output : List ℕ) → length values ≡ 1024 → length bases ≡ lanes t → length output ≡ 1024
@@ -115,7 +134,7 @@ abbrev pub rowsP6 : List ℕ
 rowsP6 = 0 ∷ 1 ∷ 2 ∷ 3 ∷ 4 ∷ 5 ∷ 6 ∷ 7 ∷ []
 
 -- They are packed to these words, and P7 speaks of the same.
-abbrev pub wordsP6 : List Entry
+abbrev pub wordsP6 : List Mark
 wordsP6 = 136 at 0 ∷ 198 at 128 ∷ 250 at 256 ∷ []
 
 -- P10's block is made of the two numbers so.
@@ -142,7 +161,7 @@ cases =
     ∷ comes 197 329  -- P5
     ∷ comes 1023 1023  -- P5
     ∷ packs t8 3 0 rowsP6 wordsP6  -- P6
-    ∷ reads t8 3 wordsP6 256 2 2  -- P7
+    ∷ reads t8 3 wordsP6 256 2 (0 ∷ 128 ∷ [])  -- P7, from two words
     ∷ frames t8 4 3 250 9 3  -- P8, restored at width 4
     ∷ frames t8 3 3 250 9 251  -- P8, not restored at width 3
     ∷ steps t8 5 (5 ∷ 7 ∷ 6 ∷ []) (0 ∷ 2 ∷ 255 ∷ [])  -- P9
@@ -152,6 +171,6 @@ cases =
     ∷ []
 
 -- This says that every case of a list has the property.
-abbrev pub All : (Case → Type 0) → List Case → Type 0
+abbrev pub All : (P : Case → Type 0) → List Case → Type 0
 All P [] = Unit
 All P (c ∷ cs) = P c × All P cs

@@ -18,7 +18,7 @@ use Rattle.places.specs.Sizes.{Size, lanes}
 use Rattle.places.specs.Tab.{tab, over}
 use Rattle.places.proofs.Places.{each, place-row-lane, lane-lt, row-lt, row-place, place-lt, place-lane, row-within}
 use Rattle.places.proofs.Tabs.{length-tab, getD-tab, tab-ext, is-tab, tab-getD, length-over, getD-over-in, getD-over-before, getD-over-after}
-use Rattle.rows.specs.Blocks.{rowsOver}
+use Rattle.rows.specs.InnerBlocks.{rowsOver}
 use Rattle.rows.specs.Rows.{loadOf, storeOf}
 use Rattle.rows.proofs.Rows.{load-room, store-room}
 

@@ -12,12 +12,13 @@ use lib.Dec.{eqb}
 use lib.ListN.{length, getD, take, drop}
 use lib.Seq.{getD-take, take-take, take-at, drop-at}
 use Rattle.places.specs.declared.Answer.the-variants.{Done}
+use Rattle.places.specs.Takes.{answerFor}
 use Rattle.places.specs.Pick.{pick}
 use Rattle.places.specs.Search.{firstBeyond}
 use Rattle.places.specs.Tab.{tab, tabFrom, over}
 use Rattle.places.proofs.Tabs.{getD-tab, length-tab, length-over, tab-snoc, is-tab}
 use Rattle.runs.specs.declared.Encoded.the-variants.{Count}
-use Rattle.runs.specs.Calls.{encodedOf, dictionaryLeaves, indicesLeaves, decodeAnswer, decodeLeaves}
+use Rattle.runs.specs.Calls.{encodedOf, dictionaryLeaves, indicesLeaves, decodeTakes, decodeLeaves}
 use Rattle.runs.specs.Runs.{runAt, runCount, runValues, indicesOf, dictionaryOf, decodeOf, passing, differs, changes}
 use Rattle.runs.proofs.Answers.{encode-done, decode-done}
 use Rattle.runs.proofs.Runs.{run-neighbours, run-value, run-below, values-count, count-bounds}
@@ -134,7 +135,7 @@ module _ (v old indices : List ℕ) (lv : length v ≡ 1024) (lo : length old �
 
   module _ (output : List ℕ) (lout : length output ≡ 1024) where
     -- decode of what encode left, with the first n places of its dictionary, is done
-    pub decode-encode-done : decodeAnswer (take (runCount v) (dictionaryLeaves v old indices)) (indicesLeaves v old indices) output ≡ Done
+    pub decode-encode-done : answerFor (decodeTakes (take (runCount v) (dictionaryLeaves v old indices)) (indicesLeaves v old indices) output) ≡ Done
     decode-encode-done =
         let n : length (take (runCount v) (dictionaryOf v old)) ≡ runCount v = ap length (dictionary-first v old) ∙ values-count v in
         rw (encode-dictionary, encode-indices)
@@ -147,7 +148,7 @@ module _ (v old indices : List ℕ) (lv : length v ≡ 1024) (lo : length old �
     decode-encode-leaves = rw (decode-encode-done, encode-dictionary, encode-indices) (decode-encode v old lv)
 
     -- With the whole dictionary that encode left it is done too, and leaves the same.
-    pub decode-whole-done : decodeAnswer (dictionaryLeaves v old indices) (indicesLeaves v old indices) output ≡ Done
+    pub decode-whole-done : answerFor (decodeTakes (dictionaryLeaves v old indices) (indicesLeaves v old indices) output) ≡ Done
     decode-whole-done =
         rw (encode-dictionary, encode-indices)
         (decode-done (dictionaryOf v old) (indicesOf v) output (indices-length v) lout

@@ -1,3 +1,3 @@
 pub mod Calls
-pub mod Highest
+pub mod InnerHighest
 pub mod Runs

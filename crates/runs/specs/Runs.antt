@@ -10,7 +10,7 @@ use Rattle.places.specs.Tab.{tab, over}
 
 -- This is the number of the run of place i. Place 0 is in run 0, and a later place is in the run of the place before where the two values are
 -- equal, else in the next one.
-unfoldable pub runAt : List ℕ → ℕ → ℕ
+unfoldable pub runAt : (v : List ℕ) (i : ℕ) → ℕ
 runAt v zero = 0
 runAt v (suc i) = runAt v i + pick (eqb (getD v (suc i) 0) (getD v i 0)) 0 1
 
@@ -23,7 +23,7 @@ unfoldable pub runCount : List ℕ → ℕ
 runCount v = runAt v 1023 + 1
 
 -- These are the values of the runs of places 0 to i, in order: the value at place 0, and the value at each place that differs from the place before.
-unfoldable pub valuesTo : List ℕ → ℕ → List ℕ
+unfoldable pub valuesTo : (v : List ℕ) (i : ℕ) → List ℕ
 valuesTo v zero = getD v 0 0 ∷ []
 valuesTo v (suc i) = pick (eqb (getD v (suc i) 0) (getD v i 0)) (valuesTo v i) (valuesTo v i ++ (getD v (suc i) 0 ∷ []))
 
@@ -32,11 +32,11 @@ unfoldable pub runValues : List ℕ → List ℕ
 runValues v = valuesTo v 1023
 
 -- In encode's dictionary the runs' values stand first, and the places after them hold what they held.
-unfoldable pub dictionaryOf : List ℕ → List ℕ → List ℕ
+unfoldable pub dictionaryOf : (v old : List ℕ) → List ℕ
 dictionaryOf v old = over 0 (runValues v) old
 
 -- Decode puts dictionary[index] at each place.
-unfoldable pub decodeOf : List ℕ → List ℕ → List ℕ
+unfoldable pub decodeOf : (dictionary indices : List ℕ) → List ℕ
 decodeOf dictionary indices = tab 1024 (λ i. getD dictionary (getD indices i 0) 0)
 
 -- This counts the numbers of a list that pass a test.
@@ -45,7 +45,7 @@ passing test [] = 0
 passing test (x ∷ xs) = pick (test x) 1 0 + passing test xs
 
 -- This test says that the value at place p differs from the one at the place before.
-abbrev pub differs : List ℕ → ℕ → Bool
+abbrev pub differs : (v : List ℕ) (p : ℕ) → Bool
 differs v p = not (eqb (getD v p 0) (getD v (p - 1) 0))
 
 -- The count rule in document 01's own words: this many of the places 1 to 1023 differ from the place before. That there is one run more is

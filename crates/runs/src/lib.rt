@@ -11,7 +11,7 @@ use places::Answer;
 ghost use mathlib.Core.Path.{_≡_};
 ghost use Rattle.places.specs.Search.{firstBeyond};
 ghost use Rattle.runs.specs.Calls.{answerOf, countOf};
-ghost use Rattle.runs.specs.Highest.{highestOf};
+ghost use Rattle.runs.specs.InnerHighest.{highestOf};
 
 // What encode answers: how many runs there are, or why it is refused.
 pub enum Encoded {

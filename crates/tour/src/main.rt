@@ -1,7 +1,7 @@
 // A tour in a screenful, for a person: a block is packed, a row is looked up, two calls are refused, and a width does damage that is too
 // narrow for its numbers. The program reads nothing. What it must write stands in crates/tour/stdout, worked out by hand from document 01.
+use access::t8::Single;
 use libc::STDOUT_FILENO;
-use packing::t8::Single;
 use places::Answer;
 
 fn main() {
@@ -34,7 +34,7 @@ fn show_lookup(packed: &[u8; 384]) {
 }
 
 fn look_up(width: usize, packed: &[u8; 384]) {
-    let single = packing::t8::unpack_single(width, packed, 256);
+    let single = access::t8::unpack_single(width, packed, 256);
     match single {
         Single::Value(x) => line(b"  ", wide(x), b" at ", 256),
         Single::Refused(answer) => show_answer(answer),
@@ -44,7 +44,7 @@ fn look_up(width: usize, packed: &[u8; 384]) {
 // A list of places of which the block does not have the third.
 fn show_list(packed: &[u8; 384]) {
     let mut output = [77u8; 3];
-    let answer = packing::t8::unpack_indices(3, packed, &[0, 256, 1024], &mut output);
+    let answer = access::t8::unpack_indices(3, packed, &[0, 256, 1024], &mut output);
     say(b"\nA stub asks for a list of places: 0, 256 and 1024. A block ends at 1023,\n");
     say(b"so the list is refused, and the place is that of the bad entry:\n");
     show_answer(answer);

@@ -5,7 +5,7 @@ use Prim.Native.Nat.{_+_, _-_, _*_, _<_}
 use native.Mathlib.Omega.{arith}
 use lib.ListN.{getD}
 use borrow.Author.Needs.{needs}
-use Rattle.bits.specs.Steps.{gatherOf}
+use Rattle.bits.specs.InnerSteps.{gatherOf}
 use Rattle.bits.proofs.Gathers.{Gathered, gathered-none, gathered-next, strided-lt}
 use Rattle.bits.proofs.gather.Statement.{statement}
 use Rattle.bits.proofs.gather.Tie as tie

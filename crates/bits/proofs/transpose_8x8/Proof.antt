@@ -3,27 +3,27 @@
 -- Assumes nothing.
 use mathlib.Core.Path.{ap, _∙_}
 use native.Mathlib.Omega.{arith}
+use Rattle.places.specs.Numbers.{digit}
 use Rattle.places.proofs.Every.{below}
-use Rattle.bits.specs.Numbers.{bitOf}
-use Rattle.bits.specs.Steps.{crossed, exchangeOf}
+use Rattle.bits.specs.InnerSteps.{crossed, exchangeOf}
 use Rattle.bits.proofs.Exchanges.{exchanges-turn}
 use Rattle.bits.proofs.transpose_8x8.Statement.{statement}
 use Rattle.bits.proofs.transpose_8x8.Tie as tie
 
 exchange-requires : tie.Need-exchange-requires
-unfolding bitOf
+unfolding digit
 exchange-requires c κs = (omega arith, below 64 _ (λ _. 2) tt)
 
 exchange-requires-2 : tie.Need-exchange-requires-2
-unfolding bitOf
+unfolding digit
 exchange-requires-2 c κs = (omega arith, below 64 _ (λ _. 2) tt)
 
 exchange-requires-3 : tie.Need-exchange-requires-3
-unfolding bitOf
+unfolding digit
 exchange-requires-3 c κs = (omega arith, below 64 _ (λ _. 2) tt)
 
 returns : tie.Need-returns
-unfolding bitOf crossed
+unfolding digit crossed
 returns c =
     c .exchange3 .ensures
     ∙ ap (λ y. exchangeOf y _ _) (c .before .exchange2 .ensures ∙ ap (λ y. exchangeOf y _ _) (c .before .before .exchange .ensures))

@@ -8,7 +8,7 @@ use borrow.Author.Needs.{needs}
 use Rattle.places.specs.Tab.{tab}
 use Rattle.places.proofs.Places.{order-lt}
 use Rattle.places.proofs.Tabs.{Written, written-none, written-next, written-all}
-use Rattle.bits.specs.Steps.{gatherOf, turnOf, turnsOf, unscatterStart}
+use Rattle.bits.specs.InnerSteps.{gatherOf, turnOf, turnsOf, unscatterStart}
 use Rattle.bits.proofs.unscatter.Statement.{statement}
 use Rattle.bits.proofs.unscatter.Tie as tie
 

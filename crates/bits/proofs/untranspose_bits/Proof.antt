@@ -2,7 +2,7 @@
 -- Assumes nothing.
 use mathlib.Core.Path.{ap, _∙_}
 use borrow.Author.Needs.{needs}
-use Rattle.bits.specs.Steps.{gathersOf, ungroupStart}
+use Rattle.bits.specs.InnerSteps.{gathersOf, ungroupStart}
 use Rattle.bits.proofs.Walks.{untranspose-walks}
 use Rattle.bits.proofs.untranspose_bits.Statement.{statement}
 use Rattle.bits.proofs.untranspose_bits.Tie as tie

@@ -1,10 +1,12 @@
 -- `bits::write_word` meets its contract. The loop's invariant: the first i bytes are written.
 -- Assumes nothing.
-use mathlib.Core.Path.{_≡_, refl}
-use Prim.Native.Nat.{_-_, _≤_}
+use mathlib.Core.Path.{_≡_, refl, ap}
+use Prim.Native.Nat.{_-_, _/_, _%_, _^_, _≤_}
+use native.Mathlib.Nat.{mul-comm}
 use native.Mathlib.Omega.{arith}
+use Rattle.places.specs.Numbers.{digit}
 use Rattle.places.proofs.Tabs.{Written, written-none, written-next, written-length}
-use Rattle.bits.specs.Numbers.{byteOf}
+use Rattle.bits.specs.InnerSteps.{byteOf}
 use Rattle.bits.proofs.write_word.Statement.{statement}
 use Rattle.bits.proofs.write_word.Tie as tie
 
@@ -39,8 +41,12 @@ loop-less : tie.Need-loop-less Inv-loop μ-loop
 loop-less c = omega arith
 
 loop-again : tie.Need-loop-again Inv-loop μ-loop
-unfolding byteOf
-loop-again c = (omega arith, written-next (c .before .loop .inv .1) _ _ (omega arith) refl refl)
+unfolding digit
+loop-again c =
+    let at = c .before in (
+      omega arith,
+      written-next (at .loop .inv .1) _ _ (omega arith) refl (ap (λ k. at .before .args .word / 2 ^ k % 2 ^ 8) (mul-comm (at .loop .i) 8)),
+    )
 
 same-length : tie.Need-same-length Inv-loop μ-loop
 same-length c = written-length (c .before .loop .inv .1)

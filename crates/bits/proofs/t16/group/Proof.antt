@@ -9,7 +9,7 @@ use Rattle.places.specs.Sizes.{t16, lanes}
 use Rattle.places.specs.Tab.{tab}
 use Rattle.places.proofs.Places.{order-lt, size16}
 use Rattle.places.proofs.Tabs.{Written, written-none, written-next, written-all}
-use Rattle.bits.specs.Steps.{gatherOf, turnOf, turnsOf, groupStart}
+use Rattle.bits.specs.InnerSteps.{gatherOf, turnOf, turnsOf, groupStart}
 use Rattle.bits.proofs.Walks.{group-room}
 use Rattle.bits.proofs.t16.group.Statement.{statement}
 use Rattle.bits.proofs.t16.group.Tie as tie

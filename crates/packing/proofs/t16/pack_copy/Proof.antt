@@ -5,7 +5,7 @@ use Prim.Native.Nat.{ℕ, _-_, _*_, _/_, _≤_}
 use native.Mathlib.Omega.{arith}
 use borrow.Author.Needs.{needs}
 use Rattle.places.specs.Sizes.{t16}
-use Rattle.packing.specs.Walks.{Filled}
+use Rattle.packing.specs.InnerWalks.{Filled}
 use Rattle.packing.proofs.Turns.{filled-none, filled-all}
 use Rattle.packing.proofs.t16.pack_copy.Statement.{statement}
 use Rattle.packing.proofs.t16.pack_copy.Tie as tie
@@ -32,7 +32,7 @@ loop-again : tie.Need-loop-again Inv-loop μ-loop
 loop-again c = (omega arith, c .before .before .pack-copy-eight .ensures)
 
 same-length : tie.Need-same-length Inv-loop μ-loop
-same-length c = c .before .loop .inv .1 .long ∙ sym (c .before .before .before .before .pre .0)
+same-length c = c .before .loop .inv .1 .fits ∙ sym (c .before .before .before .before .pre .0)
 
 returns : tie.Need-returns Inv-loop μ-loop
 returns c = filled-all _ (omega arith) (c .before .loop .inv .1)

@@ -8,7 +8,7 @@ use native.Mathlib.Omega.{arith}
 use denote.Ref.{now}
 use borrow.Author.Needs.{needs}
 use Rattle.places.specs.Sizes.{t16}
-use Rattle.packing.specs.Walks.{Filled, heldRow}
+use Rattle.packing.specs.InnerWalks.{Filled, heldRow}
 use Rattle.packing.proofs.Steps.{word-all}
 use Rattle.packing.proofs.Turns.{filled-none, filled-all, held-none}
 use Rattle.packing.proofs.t16.pack_split.Statement.{statement}
@@ -43,7 +43,7 @@ loop-again : tie.Need-loop-again Inv-loop μ-loop
 loop-again c = (omega arith, c .before .before .pack-eight .ensures .0, c .before .before .pack-eight .ensures .1)
 
 same-length : tie.Need-same-length Inv-loop μ-loop
-same-length c = c .before .loop .inv .2 .long ∙ sym (c .before .before .before .before .before .pre .1 .1)
+same-length c = c .before .loop .inv .2 .fits ∙ sym (c .before .before .before .before .before .pre .1 .1)
 
 returns : tie.Need-returns Inv-loop μ-loop
 returns c =

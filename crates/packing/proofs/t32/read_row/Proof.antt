@@ -11,7 +11,7 @@ use borrow.Author.Needs.{needs}
 use Rattle.places.specs.Sizes.{t32, lanes}
 use Rattle.places.proofs.Places.{size32}
 use Rattle.rows.specs.Rows.{shrOf, orShlOf, maskOf}
-use Rattle.packing.specs.Packed.{Words}
+use Rattle.places.specs.Numbers.{Elements}
 use Rattle.packing.proofs.Turns.{word-room, first-word, next-word, row-one, row-two}
 use Rattle.packing.proofs.t32.read_row.Statement.{statement}
 use Rattle.packing.proofs.t32.read_row.Tie as tie
@@ -75,7 +75,7 @@ returns c =
     let w = start .args .width in
     let r = start .args .r in
     let packed = now (start .args .packed) in
-    let small : Words t32 w packed = λ i _. omega (arith, at-shr .before .before .shared-slice-known .given i) in
+    let small : Elements t32 packed = λ i. omega (arith, at-shr .before .before .shared-slice-known .given i) in
     let first = at-shr .shr .ensures ∙ ap (λ x. shrOf t32 x (r * w % t32)) (at-shr .before .row-at .ensures) in
     c .mask .ensures
     ∙ ⊎-elim

@@ -1,0 +1,86 @@
+-- The sentences of document 01, "The packed layout", about access, over the element size and the width: single access as unpack at its
+-- place, and list access as single access entry by entry. Each law speaks of what the calls give and leave.
+-- Assumes nothing.
+use mathlib.Core.Path.{_≡_, refl, sym, ap, _∙_}
+use mathlib.Core.Bool.{Bool, true, false}
+use mathlib.Core.List.{List}
+use mathlib.Core.Logic.{_⊎_}
+use Prim.Native.Nat.{ℕ, _*_, _≤_, _<_}
+use lib.ListN.{length, getD}
+use Rattle.places.specs.declared.Answer.{Answer}
+use Rattle.places.specs.declared.Answer.the-variants.{Done, Width, Block, Packed, Base, Lists, Index, Dictionary}
+use Rattle.places.specs.Answers.{isDone, left}
+use Rattle.places.specs.Pick.{pick}
+use Rattle.places.specs.Search.{firstBeyond}
+use Rattle.places.specs.Sizes.{lanes}
+use Rattle.places.specs.Takes.{answerFor}
+use Rattle.places.proofs.Tabs.{getD-tab}
+use Rattle.packing.specs.Calls.{unpackLeaves}
+use Rattle.packing.specs.Packed.{unpackOf, valueAt}
+use Rattle.packing.proofs.Answers.{good-block}
+use Rattle.packing.proofs.Rounds.{unpack-at}
+use Rattle.access.specs.Calls.{single, singleTakes, singleOf, listTakes, listOf, listLeaves}
+use Rattle.access.proofs.Answers.{single-good, index-in, list-good, list-bad-index, indices-good}
+
+-- What an enum's two cases stand for, read back off the single answer, is the answer of the tests, and the value at the index where the call is
+-- done.
+module _ {S : Type 0} (value : ℕ → S) (refused : Answer → S) (t w : ℕ) (packed : List ℕ) (index : ℕ) where
+  pub single-answers : (answer : S → Answer) → ((v : ℕ) → answer (value v) ≡ Done) → ((a : Answer) → answer (refused a) ≡ a)
+      → answer (singleOf value refused t w packed index) ≡ answerFor (singleTakes t w packed index)
+  unfolding singleOf
+  single-answers answer ev er = reads (answerFor (singleTakes t w packed index))
+    where
+      reads : (a : Answer) → answer (single value refused a (valueAt t w packed index)) ≡ a
+      reads Done = ev (valueAt t w packed index)
+      reads Width = er Width
+      reads Block = er Block
+      reads Packed = er Packed
+      reads Base = er Base
+      reads Lists = er Lists
+      reads (Index p) = er (Index p)
+      reads (Dictionary p) = er (Dictionary p)
+
+  pub single-values : (read : S → ℕ) → ((v : ℕ) → read (value v) ≡ v) → ((a : Answer) → read (refused a) ≡ 0)
+      → read (singleOf value refused t w packed index) ≡ left (answerFor (singleTakes t w packed index)) (valueAt t w packed index) 0
+  unfolding singleOf
+  single-values read ev er = reads (isDone (answerFor (singleTakes t w packed index)))
+    where
+      reads : (b : Bool)
+          → read (pick b (value (valueAt t w packed index)) (refused (answerFor (singleTakes t w packed index)))) ≡ pick b (valueAt t w packed index) 0
+      reads true = ev (valueAt t w packed index)
+      reads false = er (answerFor (singleTakes t w packed index))
+
+  pub single-value : answerFor (singleTakes t w packed index) ≡ Done → singleOf value refused t w packed index ≡ value (valueAt t w packed index)
+  unfolding singleOf
+  single-value e = ap (λ a. single value refused a (valueAt t w packed index)) e
+
+module _ {S : Type 0} (value : ℕ → S) (refused : Answer → S) (t w : ℕ) (packed : List ℕ) (h : w ≤ t) (e : length packed ≡ lanes t * w) where
+  -- Single access gives the value that unpack leaves at that place.
+  pub single-unpack : (out : List ℕ) → length out ≡ 1024 → (p : ℕ) → p < 1024
+      → singleOf value refused t w packed p ≡ value (getD (unpackLeaves t w out packed) p 0)
+  unfolding unpackLeaves
+  single-unpack out eo p hp =
+      sym (single-good value refused t w packed p h e)
+      ∙ ap (λ a. single value refused a (valueAt t w packed p)) (index-in w p hp)
+      ∙ ap value
+      (sym (unpack-at t w packed p hp) ∙ ap (λ a. getD (left a (unpackOf t w packed) out) p 0) (sym (good-block t w out packed h eo e)))
+
+  module _ (indices out : List ℕ) (eo : length out ≡ length indices) where
+    -- Where the list is taken, each entry that it leaves is what single access gives for that index.
+    pub list-single : (w ≡ 0) ⊎ (firstBeyond 1024 indices ≡ length indices) → (i : ℕ) → i < length indices
+        → singleOf value refused t w packed (getD indices i 0) ≡ value (getD (listLeaves t w packed indices out) i 0)
+    unfolding listLeaves listOf
+    list-single good i hi =
+        sym (single-good value refused t w packed (getD indices i 0) h e)
+        ∙ ap (λ a. single value refused a (valueAt t w packed (getD indices i 0))) (indices-good t w packed indices out good i hi)
+        ∙ ap value
+        (sym (getD-tab (length indices) (λ i. valueAt t w packed (getD indices i 0)) i 0 hi)
+        ∙ ap (λ a. getD (left a (listOf t w packed indices) out) i 0) (sym (list-good t w packed indices out h e eo good)))
+
+    -- Where an entry is refused, the list is refused at the first of those, and nothing is written.
+    pub list-refused : 0 < w → firstBeyond 1024 indices < length indices
+        → (answerFor (listTakes t w packed indices out) ≡ Index (firstBeyond 1024 indices)) × (listLeaves t w packed indices out ≡ out)
+    unfolding listLeaves
+    list-refused pos b =
+        let bad = list-bad-index t w packed indices out h e eo pos b in
+        (bad, ap (λ a. left a (listOf t w packed indices) out) bad)

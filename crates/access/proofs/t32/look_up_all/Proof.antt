@@ -1,0 +1,136 @@
+-- `access::t32::look_up_all` meets its contract. The loop's invariant: the first i outputs hold the values at their indices.
+-- Assumes nothing.
+use mathlib.Core.Path.{_≡_, refl, sym, ap, _∙_}
+use Prim.Native.Nat.{ℕ, _-_, _≤_, zero-le}
+use native.Mathlib.Nat.{zero-add}
+use native.Mathlib.Omega.{arith}
+use denote.Ref.{now}
+use lib.ListN.{length, getD}
+use borrow.Author.Needs.{needs}
+use Rattle.places.specs.Sizes.{t32}
+use Rattle.places.proofs.Tabs.{Written, written-none, written-length, written-next, written-all}
+use Rattle.places.specs.declared.Answer.{Answer}
+use Rattle.access.specs.declared.t32.Single.{Single}
+use Rattle.access.specs.declared.t32.Single.the-variants.{Value, Refused}
+use Rattle.access.specs.Calls.{listOf}
+use Rattle.packing.specs.Packed.{valueAt}
+use Rattle.access.proofs.t32.look_up_all.Statement.{statement}
+use Rattle.access.proofs.t32.look_up_all.Tie as tie
+
+abbrev Inv-loop : tie.InvT-loop
+Inv-loop width packed indices output₀ lane-by-place row-by-place i₀ output i =
+    (i ≤ length indices) × Written 0 i (λ i. valueAt t32 width packed (getD indices i 0)) output₀ output
+
+abbrev μ-loop : tie.MeasureT-loop
+μ-loop width packed indices output₀ lane-by-place row-by-place i₀ output i = length indices - i
+
+lane-table-requires : tie.Need-lane-table-requires Inv-loop μ-loop
+lane-table-requires c κs = search needs
+
+row-table-requires : tie.Need-row-table-requires Inv-loop μ-loop
+row-table-requires c κs = search needs
+
+loop-holds : tie.Need-loop-holds Inv-loop μ-loop
+loop-holds c = (search needs, written-none zero-le)
+
+mul-look-up : tie.Need-mul-look-up Inv-loop μ-loop
+mul-look-up c = omega arith
+
+shared-slice-read-look-up : tie.Need-shared-slice-read-look-up Inv-loop μ-loop
+shared-slice-read-look-up c = omega arith
+
+look-up-requires : tie.Need-look-up-requires Inv-loop μ-loop
+look-up-requires c κs =
+    let tables = c .before .before .before .before .before in
+    let pre = tables .before .before .before .before .before .pre in
+    (pre .0, (pre .1 .0, (tables .before .lane-table .ensures, tables .row-table .ensures)))
+
+-- the single answer is the value, since its index was looked at before
+answered : (c : tie.After-look-up Inv-loop μ-loop)
+    → c .look-up .result ≡ Value (valueAt t32 (c .before .before .before .before .before .before .before .before .before .before .before .args .width) (now (c .before .before .before .before .before .before .before .before .before .before .before .args .packed)) (getD (now (c .before .before .before .before .before .before .before .before .before .before .before .args .indices)) (c .before .before .before .before .before .loop .i) 0))
+answered c =
+    let in-loop = c .before .before .before .before in
+    let start = in-loop .before .before .before .before .before .before .before in
+    let good = start .pre .1 .1 .1 _ (in-loop .loop-test .taken) in
+    c .look-up .ensures ∙ rw good
+
+-- so it is no refusal
+never : (x : Single) (v : ℕ) (a : Answer) → x ≡ Value v → x ≡ Refused a → ⊥
+never x v a p q = let z : _≡_ {A = ℕ} 0 1 = cc in omega arith
+
+same-value : (x : Single) (v w : ℕ) → x ≡ Value v → x ≡ Value w → v ≡ w
+same-value x v w p q = cc
+
+enum-known-found : tie.Need-enum-known-found Inv-loop μ-loop
+enum-known-found c = search needs
+
+enum-told : tie.Need-enum-told Inv-loop μ-loop
+enum-told c = search needs
+
+answer-requires : tie.Need-answer-requires Inv-loop μ-loop
+answer-requires c κs = search needs
+
+at-entry-requires : tie.Need-at-entry-requires Inv-loop μ-loop
+at-entry-requires c κs = search needs
+
+same-length : tie.Need-same-length Inv-loop μ-loop
+same-length c = absurd (never _ _ _ (answered (c .before .before .before .before)) (c .before .before .enum-told .given .1))
+
+returns : tie.Need-returns Inv-loop μ-loop
+returns c = absurd (never _ _ _ (answered (c .before .before .before .before)) (c .before .before .enum-told .given .1))
+
+-- sizes: not at t8
+mul-output : tie.Need-mul-output Inv-loop μ-loop
+mul-output c = omega arith
+
+-- sizes: end
+
+slice-write-output : tie.Need-slice-write-output Inv-loop μ-loop
+slice-write-output c = omega (arith, written-length (c .before .before .before .before .before .before .before .before .loop .inv .1))
+
+add-i : tie.Need-add-i Inv-loop μ-loop
+add-i c = omega arith
+
+loop-less : tie.Need-loop-less Inv-loop μ-loop
+loop-less c = omega arith
+
+loop-again : tie.Need-loop-again Inv-loop μ-loop
+loop-again c =
+    let at-loop = c .before .before .before .before .before .before .before .before in (
+      omega arith,
+      written-next (at-loop .loop .inv .1) _ _ (omega arith) (sym (zero-add _))
+          (same-value _ _ _ (c .before .found .given .1) (answered (c .before .before .before))),
+    )
+
+same-length-2 : tie.Need-same-length-2 Inv-loop μ-loop
+same-length-2 c = written-length (c .before .loop .inv .1)
+
+returns-2 : tie.Need-returns-2 Inv-loop μ-loop
+unfolding listOf
+returns-2 c = (refl, written-all (c .before .loop .inv .1) _ (omega arith) (c .before .before .before .before .before .before .before .pre .1 .1 .0))
+
+pub look-up-all-spec : {M : Type 1} → statement M
+look-up-all-spec =
+    tie.close
+    (tie.spec
+    Inv-loop
+    μ-loop
+    lane-table-requires
+    row-table-requires
+    loop-holds
+    mul-look-up
+    shared-slice-read-look-up
+    look-up-requires
+    enum-known-found
+    enum-told
+    answer-requires
+    at-entry-requires
+    same-length
+    returns
+    mul-output
+    slice-write-output
+    add-i
+    loop-less
+    loop-again
+    same-length-2
+    returns-2)

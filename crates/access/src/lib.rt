@@ -1,0 +1,41 @@
+// Access to a packed block of 1,024 values: at one place, and by a list of places. From the crate's src/bitpacking.rs. The width
+// is given at the call.
+//
+// What is the same at all four element sizes stands here: the search of a list for an index past the block's end, and an
+// entry's refusal as the list's. Each size has a module of its own.
+pub mod t16;
+pub mod t32;
+pub mod t64;
+pub mod t8;
+
+use places::Answer;
+ghost use mathlib.Core.Path.{_≡_};
+ghost use Rattle.places.specs.Search.{firstBeyond};
+ghost use Rattle.access.specs.InnerEntries.{atEntry};
+
+// The lowest place of a list whose index is 1,024 or more; the list's length where there is none.
+fn first_beyond(indices: &[usize]) -> usize
+    ensures { λ r. ⌜ r ≡ firstBeyond 1024 (now (indices .entry)) ⌝ }
+{
+    let mut i = 0;
+    let place = loop {
+        if indices.len() <= i {
+            break i;
+        }
+        if 1024 <= indices[i] {
+            break i;
+        }
+        i += 1;
+    };
+    place
+}
+
+// What entry i of a list answers, as the list's answer: a bad index, number 6, has the entry's place.
+fn at_entry(answer: Answer, i: usize) -> Answer
+    ensures { λ r. ⌜ r ≡ atEntry answer i ⌝ }
+{
+    if answer.number() == 6 {
+        return Answer::Index(i);
+    }
+    answer
+}

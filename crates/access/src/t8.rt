@@ -1,0 +1,211 @@
+// Access to packed blocks of u8 values.
+use crate::at_entry;
+use crate::first_beyond;
+use places::Answer;
+use places::t8::lane_of;
+use places::t8::lane_table;
+use places::t8::row_of;
+use places::t8::row_table;
+ghost use mathlib.Core.Path.{_≡_};
+ghost use mathlib.Core.List.{[], _∷_};
+ghost use Prim.Native.Nat.{ℕ, _*_, _/_, _%_, _^_, _≤_, _<_};
+ghost use lib.ListN.{length, getD};
+ghost use Rattle.places.specs.declared.Answer.the-variants.{Done};
+ghost use Rattle.places.specs.Numbers.{digit};
+ghost use Rattle.places.specs.Places.{lane, row};
+ghost use Rattle.places.specs.Sizes.{t8, lanes};
+ghost use Rattle.places.specs.Tab.{tab};
+ghost use Rattle.places.specs.Takes.{an-index, answerFor};
+ghost use Rattle.packing.specs.Packed.{wordsNumber, valueAt};
+ghost use Rattle.access.specs.Calls.{single, singleOf, listTakes, listOf, listLeaves};
+ghost use Rattle.access.specs.t8.{answerOf, valueOf};
+
+const T: usize = 8;
+
+const LANES: usize = 128;
+
+const BITS: u8 = 8;
+
+// The value at one place, or the refusal.
+pub enum Single {
+    Value(u8),
+    Refused(Answer),
+}
+
+impl Single {
+    // The answer in the terms of the other calls.
+    pub fn answer(self) -> Answer
+        ensures { λ r. ⌜ r ≡ answerOf self ⌝ }
+    {
+        match self {
+            Single::Value(_) => Answer::Done,
+            Single::Refused(a) => a,
+        }
+    }
+
+    // The value; 0 after a refusal.
+    pub fn value(self) -> u8
+        ensures { λ r. ⌜ r ≡ valueOf self ⌝ }
+    {
+        match self {
+            Single::Value(v) => v,
+            Single::Refused(_) => 0,
+        }
+    }
+}
+
+// Unpacks the value at one place of a packed block. The two tables are read where they stand.
+pub fn unpack_single(width: usize, packed: &[u8], index: usize) -> Single
+    ensures { λ r. ⌜ r ≡ singleOf Single.Value Single.Refused t8 width (now (packed .entry)) index ⌝ }
+{
+    if T < width {
+        return Single::Refused(Answer::Width);
+    }
+    if packed.len() != LANES * width {
+        return Single::Refused(Answer::Packed);
+    }
+    if 1024 <= index {
+        return beyond(width);
+    }
+    Single::Value(read(width, packed, lane_of(index), row_of(index)))
+}
+
+// Unpacks the values at a list of places.
+pub fn unpack_indices(width: usize, packed: &[u8], indices: &[usize], output: &mut [u8]) -> Answer
+    ensures { λ r. ⌜ r ≡ answerFor (listTakes t8 width (now (packed .entry)) (now (indices .entry)) (now (output .entry))) ⌝ }
+    ensures { λ _. ⌜ now (output .exit) ≡ listLeaves t8 width (now (packed .entry)) (now (indices .entry)) (now (output .entry)) ⌝ }
+{
+    if T < width {
+        return Answer::Width;
+    }
+    if packed.len() != LANES * width {
+        return Answer::Packed;
+    }
+    if output.len() != indices.len() {
+        return Answer::Lists;
+    }
+    if 0 < width {
+        let place = first_beyond(indices);
+        if place < indices.len() {
+            return Answer::Index(place);
+        }
+    }
+    look_up_all(width, packed, indices, output)
+}
+
+// Each entry is the single answer taken apart: its value, or its refusal, which is then the list's at that entry. After the
+// search no entry is refused. The two tables are made once for the whole list.
+fn look_up_all(width: usize, packed: &[u8], indices: &[usize], output: &mut [u8]) -> Answer
+    requires { ⌜ width ≤ t8 ⌝ }
+    requires { ⌜ length (now packed) ≡ lanes t8 * width ⌝ }
+    requires { ⌜ length (now output) ≡ length (now indices) ⌝ }
+    requires { ⌜ ((i : ℕ) → i < length (now indices) → answerFor (an-index width (getD (now indices) i 0) ∷ []) ≡ Done) ⌝ }
+    ensures { λ r. ⌜ r ≡ Done ⌝ }
+    ensures { λ _. ⌜ now (output .exit) ≡ listOf t8 width (now (packed .entry)) (now (indices .entry)) ⌝ }
+{
+    let lane_by_place = lane_table();
+    let row_by_place = row_table();
+    let mut i = 0;
+    while i < indices.len() {
+        let found = look_up(width, packed, indices[i], &lane_by_place, &row_by_place);
+        let Single::Value(v) = found else {
+            return at_entry(found.answer(), i);
+        };
+        output[i] = v;
+        i += 1;
+    }
+    Answer::Done
+}
+
+// The value at one place, with the tables lent.
+fn look_up(
+    width: usize,
+    packed: &[u8],
+    index: usize,
+    lane_by_place: &[u8; 1024],
+    row_by_place: &[u8; 1024],
+) -> Single
+    requires { ⌜ width ≤ t8 ⌝ }
+    requires { ⌜ length (now packed) ≡ lanes t8 * width ⌝ }
+    requires { ⌜ now «lane_by_place» ≡ tab 1024 (lane t8) ⌝ }
+    requires { ⌜ now «row_by_place» ≡ tab 1024 (row t8) ⌝ }
+    ensures { λ r. ⌜ r ≡ single Single.Value Single.Refused (answerFor (an-index width index ∷ [])) (valueAt t8 width (now (packed .entry)) index) ⌝ }
+{
+    if 1024 <= index {
+        return beyond(width);
+    }
+    let l = wide(lane_by_place[index]);
+    let r = wide(row_by_place[index]);
+    Single::Value(read(width, packed, l, r))
+}
+
+// What single access answers for an index past the block's end: at width 0 it does not look at it.
+fn beyond(width: usize) -> Single
+    ensures { λ r. ⌜ r ≡ single Single.Value Single.Refused (answerFor (an-index width 1024 ∷ [])) 0 ⌝ }
+{
+    if width == 0 {
+        return Single::Value(0);
+    }
+    Single::Refused(Answer::Index(0))
+}
+
+// The value of row r in lane l: width 0 has no words, the middle widths split words, and width T copies.
+fn read(width: usize, packed: &[u8], l: usize, r: usize) -> u8
+    requires { ⌜ width ≤ t8 ⌝ }
+    requires { ⌜ length (now packed) ≡ lanes t8 * width ⌝ }
+    requires { ⌜ l < lanes t8 ⌝ }
+    requires { ⌜ r < t8 ⌝ }
+    ensures { λ v. ⌜ v ≡ digit width (wordsNumber t8 width (now (packed .entry)) l) r ⌝ }
+{
+    match width {
+        0 => 0,
+        1..=7 => read_split(width as u8, packed, l, r),
+        _ => packed[LANES * r + l],
+    }
+}
+
+// The value of row r in lane l: from the word where it begins, and where it crosses into the next word, from that too.
+fn read_split(width: u8, packed: &[u8], l: usize, r: usize) -> u8
+    requires { ⌜ (0 < width) × (width < t8) ⌝ }
+    requires { ⌜ length (now packed) ≡ lanes t8 * width ⌝ }
+    requires { ⌜ l < lanes t8 ⌝ }
+    requires { ⌜ r < t8 ⌝ }
+    ensures { λ v. ⌜ v ≡ digit width (wordsNumber t8 width (now (packed .entry)) l) r ⌝ }
+{
+    let bit = r * (width as usize);
+    let word = bit / T;
+    let s = (bit % T) as u8;
+    let mut v = down(packed[LANES * word + l], s);
+    if BITS < s + width {
+        v = v | up(packed[LANES * (word + 1) + l], BITS - s);
+    }
+    cut(v, width)
+}
+
+// x divided by 2^s, x times 2^s modulo 2^T, and x modulo 2^w.
+fn down(x: u8, s: u8) -> u8
+    requires { ⌜ s < t8 ⌝ }
+    ensures { λ r. ⌜ r ≡ x / 2 ^ s ⌝ }
+{
+    x >> s
+}
+
+fn up(x: u8, s: u8) -> u8
+    requires { ⌜ s < t8 ⌝ }
+    ensures { λ r. ⌜ r ≡ x * 2 ^ s % 2 ^ t8 ⌝ }
+{
+    x << s
+}
+
+fn cut(x: u8, w: u8) -> u8
+    requires { ⌜ w < t8 ⌝ }
+    ensures { λ r. ⌜ r ≡ x % 2 ^ w ⌝ }
+{
+    x % (1u8 << w)
+}
+
+fn wide(x: u8) -> usize
+    ensures { λ r. ⌜ r ≡ x ⌝ }
+{
+    x as usize
+}
