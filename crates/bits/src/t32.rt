@@ -1,3 +1,4 @@
+// Written by tools/sizes from the text of size 64: edit that one, and run tools/sizes.
 // The bit transpose for u32 elements. From the crate's src/bit_transpose/scalar.rs.
 use crate::Block;
 use crate::bytes_of;

@@ -1,3 +1,4 @@
+// Written by tools/sizes from the text of size 64: edit that one, and run tools/sizes.
 // The calls at u8, one function for each. A call reads the block of values, or the front of it as packed words or as
 // the base, and writes to the block of outputs; encode writes its indices to a block of their own.
 use crate::Outcome;

@@ -1,3 +1,4 @@
+// Written by tools/sizes from the text of size 64: edit that one, and run tools/sizes.
 // Blocks of 1,024 u16 values: the lane and row tables, and the value transpose.
 mod tables;
 

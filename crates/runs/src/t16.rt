@@ -1,3 +1,4 @@
+// Written by tools/sizes from the text of size 64: edit that one, and run tools/sizes.
 // Runs in blocks of u16 values: encode, decode, and the loop of each. From the crate's src/rle.rs.
 use crate::Encoded;
 use crate::first_beyond;

@@ -1,3 +1,4 @@
+-- Written by tools/sizes from the text of size 64: edit that one, and run tools/sizes.
 -- `access::t8::look_up_all` meets its contract. The loop's invariant: the first i outputs hold the values at their indices.
 -- Assumes nothing.
 use mathlib.Core.Path.{_≡_, refl, sym, ap, _∙_}

@@ -1,3 +1,4 @@
+-- Written by tools/sizes from the text of size 64: edit that one, and run tools/sizes.
 -- `bits::t32::transpose_bits` meets its contract: its two walks are the transpose.
 -- Assumes nothing.
 use mathlib.Core.Path.{ap, _∙_}

@@ -1,3 +1,4 @@
+-- Written by tools/sizes from the text of size 64: edit that one, and run tools/sizes.
 -- `cost::t32::words` meets its contract: a count that is at most the length counts elements.
 -- Assumes nothing.
 use Prim.Native.Nat.{_*_}

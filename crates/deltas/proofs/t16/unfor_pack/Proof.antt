@@ -1,3 +1,4 @@
+-- Written by tools/sizes from the text of size 64: edit that one, and run tools/sizes.
 -- `deltas::t16::unfor_pack` meets its contract: each refusal by its test, and what unpack leaves is raised by the reference.
 -- Assumes nothing.
 use mathlib.Core.Path.{_≡_, refl, sym, ap, _∙_}

@@ -1,3 +1,4 @@
+-- Written by tools/sizes from the text of size 64: edit that one, and run tools/sizes.
 -- `deltas::t32::undelta_pack` meets its contract: each refusal by its test, and the sums of what unpack leaves are what the packed block holds.
 -- Assumes nothing.
 use mathlib.Core.Path.{_≡_, refl, sym, ap, _∙_}

@@ -1,3 +1,4 @@
+-- Written by tools/sizes from the text of size 64: edit that one, and run tools/sizes.
 -- `packing::t16::unpack_copy` meets its contract. The loop's invariant: the first o · 8 rows hold their values.
 -- Assumes nothing.
 use mathlib.Core.Path.{_≡_}

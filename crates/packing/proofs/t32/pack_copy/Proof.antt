@@ -1,3 +1,4 @@
+-- Written by tools/sizes from the text of size 64: edit that one, and run tools/sizes.
 -- `packing::t32::pack_copy` meets its contract. The loop's invariant: the words of the first o · 8 rows are copied.
 -- Assumes nothing.
 use mathlib.Core.Path.{_≡_, sym, _∙_}

@@ -1,3 +1,4 @@
+-- Written by tools/sizes from the text of size 64: edit that one, and run tools/sizes.
 -- `runs::t16::look_up` meets its contract. The loop's invariant: the first i places of the output hold their values.
 -- Assumes nothing.
 use mathlib.Core.Path.{refl}
