@@ -1,0 +1,67 @@
+-- What the check of the contents answers, by the tests that it makes.
+-- Assumes nothing.
+use mathlib.Core.Bool.{Bool, true, false}
+use mathlib.Core.List.{List, [], _∷_}
+use mathlib.Core.Path.{_≡_, refl, ap, ap₂, _∙_}
+use Prim.Native.Nat.{ℕ, _≤_, _<_}
+use native.Mathlib.Omega.{arith}
+use lib.Dec.{eqb, leb}
+use lib.ListN.{length}
+use borrow.Author.Tests.{le-leb, lt-leb, eq-eqb, ne-eqb}
+use Rattle.places.specs.Pick.{both}
+use Rattle.contents.specs.declared.FileAnswer.the-variants.{Done, Cut, Edition, Entry, Over}
+use Rattle.contents.specs.Answers.{enough, an-edition, an-end, fileAnswer}
+use Rattle.contents.specs.Contents.{edition, count, contentsSize, badEntry, bodyStart, entriesTests, contentsTests}
+use Rattle.contents.proofs.Answers.{passed, stopped, none-left}
+
+both-second-false : (a : Bool) → both a false ≡ false
+both-second-false true = refl
+both-second-false false = refl
+
+module _ (l : List ℕ) (size : ℕ) where
+  pub short-head : length l < 4 → fileAnswer (contentsTests l size) ≡ Cut
+  short-head h = stopped _ _ (lt-leb 4 (length l) h)
+
+  module _ (h : 4 ≤ length l) where
+    head-there : fileAnswer (contentsTests l size)
+        ≡ fileAnswer (an-edition (edition l) (count l) ∷ enough (contentsSize (count l)) (length l) ∷ entriesTests l size)
+    head-there = passed _ _ (le-leb 4 (length l) h)
+
+    pub other-edition : (edition l ≡ 1 → ⊥) → fileAnswer (contentsTests l size) ≡ Edition
+    other-edition o = head-there ∙ stopped _ _ (ap (λ b. both b (leb (count l) 256)) (ne-eqb (edition l) 1 o))
+
+    pub many-blocks : 256 < count l → fileAnswer (contentsTests l size) ≡ Edition
+    many-blocks m =
+        head-there
+        ∙ stopped _ _ (ap (both (eqb (edition l) 1)) (lt-leb (count l) 256 m) ∙ both-second-false (eqb (edition l) 1))
+
+    module _ (e : edition l ≡ 1) (few : count l ≤ 256) where
+      edition-right : fileAnswer (contentsTests l size) ≡ fileAnswer (enough (contentsSize (count l)) (length l) ∷ entriesTests l size)
+      edition-right = head-there ∙ passed _ _ (ap₂ both (eq-eqb (edition l) 1 e) (le-leb (count l) 256 few))
+
+      pub short-entries : length l < contentsSize (count l) → fileAnswer (contentsTests l size) ≡ Cut
+      short-entries s = edition-right ∙ stopped _ _ (lt-leb (contentsSize (count l)) (length l) s)
+
+      pub entries-there : contentsSize (count l) ≤ length l → fileAnswer (contentsTests l size) ≡ fileAnswer (entriesTests l size)
+      entries-there s = edition-right ∙ passed _ _ (le-leb (contentsSize (count l)) (length l) s)
+
+  pub bad-entries : badEntry l < count l → fileAnswer (entriesTests l size) ≡ Entry (badEntry l)
+  bad-entries h = stopped _ _ (ne-eqb (badEntry l) (count l) (λ e. omega arith))
+
+  module _ (good : badEntry l ≡ count l) where
+    entries-good : fileAnswer (entriesTests l size)
+        ≡ fileAnswer (enough (bodyStart l (count l)) size ∷ an-end (bodyStart l (count l)) size ∷ [])
+    entries-good = passed _ _ (eq-eqb (badEntry l) (count l) good)
+
+    pub short-bodies : size < bodyStart l (count l) → fileAnswer (entriesTests l size) ≡ Cut
+    short-bodies h = entries-good ∙ stopped _ _ (lt-leb (bodyStart l (count l)) size h)
+
+    module _ (h : bodyStart l (count l) ≤ size) where
+      bodies-there : fileAnswer (entriesTests l size) ≡ fileAnswer (an-end (bodyStart l (count l)) size ∷ [])
+      bodies-there = entries-good ∙ passed _ _ (le-leb (bodyStart l (count l)) size h)
+
+      pub left-over : bodyStart l (count l) < size → fileAnswer (entriesTests l size) ≡ Over
+      left-over m = bodies-there ∙ stopped _ _ (lt-leb size (bodyStart l (count l)) m)
+
+      pub entries-done : size ≤ bodyStart l (count l) → fileAnswer (entriesTests l size) ≡ Done
+      entries-done m = bodies-there ∙ passed _ _ (le-leb size (bodyStart l (count l)) m) ∙ none-left

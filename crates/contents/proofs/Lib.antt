@@ -1,0 +1,4 @@
+pub mod Answers
+pub mod Checks
+pub mod Entries
+pub mod First

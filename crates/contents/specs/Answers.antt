@@ -1,0 +1,83 @@
+-- What a call on a column file answers: document 02's numbers and places, the tests that it makes (Item 1, "Refusals, in order"), and what it
+-- leaves in a lent buffer. The tests of a call stand in a list, in Item 1's own order, which is not the order of the numbers.
+-- Assumes nothing.
+use mathlib.Core.Bool.{Bool}
+use mathlib.Core.List.{List}
+use Prim.Native.Nat.{ℕ}
+use lib.Dec.{eqb, leb, ltb}
+use lib.ListN.{length}
+use Rattle.places.specs.Answers.{firstRefusal}
+use Rattle.places.specs.Pick.{pick, both}
+use Rattle.contents.specs.declared.FileAnswer.{FileAnswer}
+use Rattle.contents.specs.declared.FileAnswer.the-variants.{Done, Block, Cut, Edition, Entry, Over, Beyond, Runs}
+
+-- Each case of an answer has a number.
+abbrev pub numberOf : FileAnswer → ℕ
+numberOf Done = 0
+numberOf Block = 2
+numberOf Cut = 8
+numberOf Edition = 9
+numberOf (Entry p) = 10
+numberOf Over = 11
+numberOf Beyond = 12
+numberOf (Runs p) = 13
+
+-- With the number a place is returned. It is 0 for every number but 10, whose place is the entry, and 13, whose place is the block.
+abbrev pub placeOf : FileAnswer → ℕ
+placeOf Done = 0
+placeOf Block = 0
+placeOf Cut = 0
+placeOf Edition = 0
+placeOf (Entry p) = p
+placeOf Over = 0
+placeOf Beyond = 0
+placeOf (Runs p) = p
+
+-- These are the things that a call on a file tests.
+pub data FileTest : Type 0 where
+  -- The output for a block is 1,024 long.
+  a-block : (output : List ℕ) → FileTest
+  -- There are as many bytes as are needed.
+  enough : (needed there : ℕ) → FileTest
+  -- The edition is 1, and there are at most 256 blocks.
+  an-edition : (edition count : ℕ) → FileTest
+  -- Every entry is as laid out: the lowest one that is not is none of them.
+  laid-out : (lowest count : ℕ) → FileTest
+  -- No byte stands after the last body.
+  an-end : (end there : ℕ) → FileTest
+  -- The number of a row or of a block is below their count.
+  a-number : (number count : ℕ) → FileTest
+  -- Every run index is in range: the lowest block that has another is none of them.
+  good-runs : (lowest count : ℕ) → FileTest
+
+-- This is the test itself.
+abbrev pub passes : FileTest → Bool
+passes (a-block output) = eqb (length output) 1024
+passes (enough needed there) = leb needed there
+passes (an-edition edition count) = both (eqb edition 1) (leb count 256)
+passes (laid-out lowest count) = eqb lowest count
+passes (an-end end there) = leb there end
+passes (a-number number count) = ltb number count
+passes (good-runs lowest count) = eqb lowest count
+
+-- This is the refusal where it fails.
+abbrev pub refusal : FileTest → FileAnswer
+refusal (a-block output) = Block
+refusal (enough needed there) = Cut
+refusal (an-edition edition count) = Edition
+refusal (laid-out lowest count) = Entry lowest
+refusal (an-end end there) = Over
+refusal (a-number number count) = Beyond
+refusal (good-runs lowest count) = Runs lowest
+
+-- A call that makes these tests answers with the first refusal of the list, and where every test passes it is done.
+unfoldable pub fileAnswer : List FileTest → FileAnswer
+fileAnswer tests = firstRefusal passes refusal Done tests
+
+-- This test says that the call is done, which is number 0.
+abbrev pub isDone : FileAnswer → Bool
+isDone a = eqb (numberOf a) 0
+
+-- This is what a lent buffer holds after a call: where the call is done what it should hold, and after a refusal what it held.
+abbrev pub left : {A : Type 0} → FileAnswer → (new old : A) → A
+left a new old = pick (isDone a) new old

@@ -1,0 +1,110 @@
+-- The contents of a column file (document 02, Item 1): edition, block count, and an entry for each block. Then when an entry is as laid out,
+-- where each body stands, and what is tested of the contents.
+--
+-- `l` is the front of a file, of which the contents are the first bytes; the whole file is its own front.
+-- Assumes nothing.
+use mathlib.Core.Bool.{Bool, false}
+use mathlib.Core.List.{List, [], _∷_}
+use Prim.Native.Nat.{ℕ, zero, suc, _+_, _*_, _%_}
+use lib.Dec.{eqb, leb}
+use lib.ListN.{length, getD}
+use Rattle.places.specs.Pick.{pick, both}
+use Rattle.little.specs.Little.{little, littleOr}
+use Rattle.contents.specs.declared.Entry.{Entry}
+use Rattle.contents.specs.Answers.{FileTest, enough, an-edition, laid-out, an-end}
+use Rattle.contents.specs.First.{firstBad}
+
+-- The edition is the first number of two bytes,
+abbrev pub edition : List ℕ → ℕ
+edition l = little l 0 2
+
+-- and the block count the second.
+abbrev pub count : List ℕ → ℕ
+count l = little l 2 2
+
+-- An entry has sixteen bytes.
+abbrev pub entrySize : ℕ
+entrySize = 16
+
+-- Contents of n entries have so many bytes, and entry n would stand behind them.
+abbrev pub contentsSize : (n : ℕ) → ℕ
+contentsSize n = 4 + n * entrySize
+
+-- The sixteen bytes from place `at` on are this entry.
+abbrev pub entryAt : (l : List ℕ) (at : ℕ) → Entry
+entryAt l at = record {
+  kind = getD l at 0;
+  width = getD l (at + 1) 0;
+  zero = little l (at + 2) 2;
+  length = little l (at + 4) 4;
+  reference = little l (at + 8) 8;
+}
+
+-- This is entry i.
+unfoldable pub entryOf : (l : List ℕ) (i : ℕ) → Entry
+entryOf l i = entryAt l (contentsSize i)
+
+-- This is the body's length that a packed block of width w asks for, behind `more` bytes.
+abbrev pub packedSize : (more w : ℕ) → ℕ
+packedSize more w = more + 128 * w
+
+-- This test says that the width is at most 64 and the length the one that it asks for.
+abbrev pub isPacked : (more : ℕ) (e : Entry) → Bool
+isPacked more e = both (leb (e .width) 64) (eqb (e .length) (packedSize more (e .width)))
+
+-- This test says that the width is 0 and the length 2048 + 8·n for a number n from 1 to 1,024: 2,056 to 10,240, and a multiple of 8.
+abbrev pub isRuns : (e : Entry) → Bool
+isRuns e = both (eqb (e .width) 0) (both (leb 2056 (e .length)) (both (leb (e .length) 10240) (eqb (e .length % 8) 0)))
+
+-- These tests say what each kind asks of the rest of the entry: 0 is packed, 1 a frame, 2 differences with sixteen base words, 3 runs.
+unfoldable pub isOfKind : (e : Entry) → Bool
+isOfKind e =
+    pick (eqb (e .kind) 0) (both (eqb (e .reference) 0) (isPacked 0 e))
+    (pick (eqb (e .kind) 1) (isPacked 0 e)
+    (pick (eqb (e .kind) 2) (both (eqb (e .reference) 0) (isPacked 128 e))
+    (pick (eqb (e .kind) 3) (both (eqb (e .reference) 0) (isRuns e)) false)))
+
+-- This test says that an entry is as laid out.
+unfoldable pub isLaidOut : (e : Entry) → Bool
+isLaidOut e = both (eqb (e .zero) 0) (isOfKind e)
+
+-- This is the lowest entry that is not as laid out, and the count where there is none.
+unfoldable pub badEntry : List ℕ → ℕ
+badEntry l = firstBad (count l) (λ i. isLaidOut (entryOf l i))
+
+-- The bodies of the first n entries have so many bytes.
+unfoldable pub bodies : (l : List ℕ) (n : ℕ) → ℕ
+bodies l zero = 0
+bodies l (suc n) = bodies l n + entryOf l n .length
+
+-- Body i begins behind the contents and the bodies before it, so the file ends where body number `count` would begin.
+unfoldable pub bodyStart : (l : List ℕ) (i : ℕ) → ℕ
+bodyStart l i = contentsSize (count l) + bodies l i
+
+-- These are the tests of the entries, for a file of `size` bytes of which l is the front.
+abbrev pub entriesTests : (l : List ℕ) (size : ℕ) → List FileTest
+entriesTests l size =
+    laid-out (badEntry l) (count l)
+    ∷ enough (bodyStart l (count l)) size
+    ∷ an-end (bodyStart l (count l)) size
+    ∷ []
+
+-- These are the tests of the contents: of the edition and the count, whether the entries are there, and then of the entries.
+abbrev pub contentsTests : (l : List ℕ) (size : ℕ) → List FileTest
+contentsTests l size =
+    enough 4 (length l)
+    ∷ an-edition (edition l) (count l)
+    ∷ enough (contentsSize (count l)) (length l)
+    ∷ entriesTests l size
+
+-- Where entry i is not all there, this stands for it.
+abbrev pub noEntry : Entry
+noEntry = record { kind = 0; width = 0; zero = 0; length = 0; reference = 0 }
+
+-- This is entry i where its bytes are all there, and else no entry.
+unfoldable pub entryOr : (l : List ℕ) (i : ℕ) → Entry
+entryOr l i = pick (leb (contentsSize (suc i)) (length l)) (entryOf l i) noEntry
+
+-- This is the block count where its bytes are all there, and else 0.
+abbrev pub countOr : List ℕ → ℕ
+countOr l = littleOr l 2 2
