@@ -3,7 +3,8 @@
 // the stream and of what is printed is docs/CASES.md.
 //
 // Here stand the loop over the cases and the way of one case. Of the modules, wire reads the stream; t8, t16, t32
-// and t64 make the calls, with the help of narrow, indices and bit_block; outcome compares; and tally counts and prints.
+// and t64 make the calls, with the help of narrow and indices, and bit_block those on bit blocks; outcome compares; and
+// tally counts and prints.
 mod bit_block;
 mod indices;
 mod narrow;
@@ -15,8 +16,8 @@ mod t8;
 mod tally;
 mod wire;
 
-use bit_block::bits_at_front;
-use bit_block::put_bits;
+use indices::indexed;
+use indices::within_indices;
 use outcome::Reply;
 use outcome::Step;
 use outcome::judge;
@@ -26,9 +27,6 @@ use wire::Beginning;
 use wire::Head;
 use wire::read_head;
 use wire::read_numbers;
-
-// A number of the stream. The texts of the sizes say Word where u64 would become another size.
-pub type Word = u64;
 
 // A buffer of a case: its elements as numbers, whatever their size, and zeros up to the end.
 pub type Wide = [u64; 4096];
@@ -97,56 +95,62 @@ fn case(head: Head) -> Step {
     let mut c_exit = [0u64; 4096];
     let mut d = [0u64; 4096];
     let mut d_exit = [0u64; 4096];
-    if !read_numbers(head.n_a, head.bytes_a(), &mut a) {
-        return Step::Bad;
-    }
-    if !read_numbers(head.n_b, head.bytes_b(), &mut b) {
-        return Step::Bad;
-    }
-    if !read_numbers(head.n_c, head.bytes_c(), &mut c) {
-        return Step::Bad;
-    }
-    if !read_numbers(head.n_c, head.bytes_c(), &mut c_exit) {
-        return Step::Bad;
-    }
-    if !read_numbers(head.n_d, head.bytes_d(), &mut d) {
-        return Step::Bad;
-    }
-    if !read_numbers(head.n_d, head.bytes_d(), &mut d_exit) {
+    let there = read_numbers(head.n_a, head.bytes_a(), &mut a)
+        && read_numbers(head.n_b, head.bytes_b(), &mut b)
+        && read_numbers(head.n_c, head.bytes_c(), &mut c)
+        && read_numbers(head.n_c, head.bytes_c(), &mut c_exit)
+        && read_numbers(head.n_d, head.bytes_d(), &mut d)
+        && read_numbers(head.n_d, head.bytes_d(), &mut d_exit);
+    if !there {
         return Step::Bad;
     }
     let reply = call(head, &a, &b, &mut c, &mut d);
     judge(head, reply, &c, &c_exit, &d, &d_exit)
 }
 
-// The call, at the size of its elements. The inverse of the bit transpose is there for one size only.
+// The call: on bit blocks, or at the size of its elements. What has one size for all is made of b and d here: the indices
+// of list access, the dictionary indices that decode takes, and those that encode writes. No other call takes d.
 fn call(head: Head, a: &Wide, b: &Wide, c: &mut Wide, d: &mut Wide) -> Reply {
     let op = head.op;
-    if op == 14 {
-        return untranspose_bits(head, a, c);
+    if op == 13 || op == 14 {
+        return bit_block::call(head, a, c);
     }
-    let t = head.t;
-    match t {
-        8 => t8::call(head, a, b, c, d),
-        16 => t16::call(head, a, b, c, d),
-        32 => t32::call(head, a, b, c, d),
-        64 => t64::call(head, a, b, c, d),
-        _ => Reply::Unknown,
+    let indices = indexed(b);
+    let entries = t16::narrowed(b);
+    let mut run_numbers = t16::narrowed(d);
+    let k = within_indices(head.n_b, &indices);
+    let l = t16::within(head.n_b, &entries);
+    let m = t16::within(head.n_d, &run_numbers);
+    let reply = at_size(
+        head,
+        a,
+        b,
+        c,
+        &indices[..k],
+        &entries[..l],
+        &mut run_numbers[..m],
+    );
+    if op == 9 {
+        *d = t16::widened(&run_numbers);
     }
+    reply
 }
 
-// A bit block is sixteen numbers, no more and no fewer: a record of this call with other counts is no case.
-fn untranspose_bits(head: Head, a: &Wide, c: &mut Wide) -> Reply {
-    if head.n_a != 16 {
-        return Reply::Unknown;
-    }
-    if head.n_c != 16 {
-        return Reply::Unknown;
-    }
-    put_bits(bits::untranspose_bits(bits_at_front(a)), c);
-    Reply::Given {
-        number: 0,
-        place: 0,
-        value: 0,
+fn at_size(
+    head: Head,
+    a: &Wide,
+    b: &Wide,
+    c: &mut Wide,
+    indices: &[usize],
+    entries: &[u16],
+    run_numbers: &mut [u16],
+) -> Reply {
+    let t = head.t;
+    match t {
+        8 => t8::call(head, a, b, c, indices, entries, run_numbers),
+        16 => t16::call(head, a, b, c, indices, entries, run_numbers),
+        32 => t32::call(head, a, b, c, indices, entries, run_numbers),
+        64 => t64::call(head, a, b, c, indices, entries, run_numbers),
+        _ => Reply::Unknown,
     }
 }

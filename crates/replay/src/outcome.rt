@@ -2,6 +2,7 @@
 use crate::Wide;
 use crate::wire::Head;
 use places::Answer;
+use runs::Encoded;
 ghost use mathlib.Core.Path.{_≡_};
 ghost use mathlib.Core.Bool.{true};
 ghost use Prim.Native.Nat.{_≤_};
@@ -20,11 +21,23 @@ impl Reply {
     pub fn of(answer: Answer) -> Self
         ensures { λ r. ⌜ r ≡ Reply.Given (numberOf answer) (placeOf answer) 0 ⌝ }
     {
+        Self::with_value(answer, 0)
+    }
+
+    // The reply of a call that gives back a value.
+    pub fn with_value(answer: Answer, value: u64) -> Self
+        ensures { λ r. ⌜ r ≡ Reply.Given (numberOf answer) (placeOf answer) value ⌝ }
+    {
         Reply::Given {
             number: answer.number() as u64,
             place: answer.place() as u64,
-            value: 0,
+            value,
         }
+    }
+
+    // The reply of encode, which gives back the number of runs.
+    pub fn of_runs(encoded: Encoded) -> Self {
+        Self::with_value(encoded.answer(), encoded.count() as u64)
     }
 }
 

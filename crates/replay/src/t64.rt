@@ -1,15 +1,12 @@
-// The calls at u64, one function for each. It takes the buffers of a case as numbers and leaves c and d as numbers,
-// so that reading and comparing are the same for every size.
+// The calls at u64. The buffers of a case come as numbers, and c is left as numbers, so that reading and comparing are the
+// same for every size. All calls share two functions: `call` makes elements of the numbers and numbers again, and `reply`
+// makes the call. With a function for each call, which does both, the prover takes nearly twice as long.
 use crate::Wide;
-use crate::Word;
-use crate::bit_block::bits_at_front;
-use crate::bit_block::put_bits;
-use crate::indices::indexed;
-use crate::indices::within_indices;
 use crate::narrow::narrow_u64;
 use crate::narrow::widen_u64;
 use crate::outcome::Reply;
 use crate::wire::Head;
+use access::t64::Single;
 ghost use mathlib.Core.Path.{_≡_};
 ghost use Prim.Native.Nat.{_%_, _^_, _≤_};
 ghost use lib.ListN.{getD};
@@ -17,216 +14,69 @@ ghost use Rattle.places.specs.Sizes.{t64};
 ghost use Rattle.places.specs.Tab.{tab};
 ghost use Rattle.io.specs.Counts.{Counts};
 
-// The call that the head names.
-pub fn call(head: Head, a: &Wide, b: &Wide, c: &mut Wide, d: &mut Wide) -> Reply {
+// The call that the head names, on the buffers a, b and c as elements. The other lists are the same at every size.
+pub fn call(
+    head: Head,
+    a: &Wide,
+    b: &Wide,
+    c: &mut Wide,
+    indices: &[usize],
+    entries: &[u16],
+    run_numbers: &mut [u16],
+) -> Reply {
+    let input = narrowed(a);
+    let base = narrowed(b);
+    let mut out = narrowed(c);
+    let n = within(head.n_a, &input);
+    let k = within(head.n_b, &base);
+    let m = within(head.n_c, &out);
+    let reply = reply(
+        head,
+        &input[..n],
+        &base[..k],
+        &mut out[..m],
+        indices,
+        entries,
+        run_numbers,
+    );
+    *c = widened(&out);
+    reply
+}
+
+// What the call gives back. Each takes those of the lists that it needs.
+fn reply(
+    head: Head,
+    input: &[u64],
+    base: &[u64],
+    out: &mut [u64],
+    indices: &[usize],
+    entries: &[u16],
+    run_numbers: &mut [u16],
+) -> Reply {
     let op = head.op;
+    let width = head.width as usize;
+    let reference = narrow_u64(head.reference);
     match op {
-        0 => pack(head, a, c),
-        1 => unpack(head, a, c),
-        2 => unpack_single(head, a),
-        3 => unpack_indices(head, a, b, c),
-        4 => delta(head, a, b, c),
-        5 => undelta(head, a, b, c),
-        6 => undelta_pack(head, a, b, c),
-        7 => for_pack(head, a, c),
-        8 => unfor_pack(head, a, c),
-        9 => encode(head, a, c, d),
-        10 => decode(head, a, b, c),
-        11 => transpose(head, a, c),
-        12 => untranspose(head, a, c),
-        13 => transpose_bits(head, a, c),
+        0 => Reply::of(packing::t64::pack(width, input, out)),
+        1 => Reply::of(packing::t64::unpack(width, input, out)),
+        2 => single(access::t64::unpack_single(width, input, head.index as usize)),
+        3 => Reply::of(access::t64::unpack_indices(width, input, indices, out)),
+        4 => Reply::of(deltas::t64::delta(input, base, out)),
+        5 => Reply::of(deltas::t64::undelta(input, base, out)),
+        6 => Reply::of(deltas::t64::undelta_pack(width, input, base, out)),
+        7 => Reply::of(deltas::t64::for_pack(width, input, reference, out)),
+        8 => Reply::of(deltas::t64::unfor_pack(width, input, reference, out)),
+        9 => Reply::of_runs(runs::t64::encode(input, out, run_numbers)),
+        10 => Reply::of(runs::t64::decode(input, entries, out)),
+        11 => Reply::of(places::t64::transpose(input, out)),
+        12 => Reply::of(places::t64::untranspose(input, out)),
         _ => Reply::Unknown,
     }
 }
 
-fn pack(head: Head, a: &Wide, c: &mut Wide) -> Reply {
-    let values = narrowed(a);
-    let mut out = narrowed(c);
-    let n = within(head.n_a, &values);
-    let m = within(head.n_c, &out);
-    let answer = packing::t64::pack(head.width as usize, &values[..n], &mut out[..m]);
-    *c = widened(&out);
-    Reply::of(answer)
-}
-
-fn unpack(head: Head, a: &Wide, c: &mut Wide) -> Reply {
-    let packed = narrowed(a);
-    let mut out = narrowed(c);
-    let n = within(head.n_a, &packed);
-    let m = within(head.n_c, &out);
-    let answer = packing::t64::unpack(head.width as usize, &packed[..n], &mut out[..m]);
-    *c = widened(&out);
-    Reply::of(answer)
-}
-
-fn unpack_single(head: Head, a: &Wide) -> Reply {
-    let packed = narrowed(a);
-    let n = within(head.n_a, &packed);
-    let single = packing::t64::unpack_single(
-        head.width as usize,
-        &packed[..n],
-        head.index as usize,
-    );
-    match single {
-        packing::t64::Single::Value(x) => Reply::Given {
-            number: 0,
-            place: 0,
-            value: widen_u64(x),
-        },
-        packing::t64::Single::Refused(answer) => Reply::of(answer),
-    }
-}
-
-fn unpack_indices(head: Head, a: &Wide, b: &Wide, c: &mut Wide) -> Reply {
-    let packed = narrowed(a);
-    let indices = indexed(b);
-    let mut out = narrowed(c);
-    let n = within(head.n_a, &packed);
-    let k = within_indices(head.n_b, &indices);
-    let m = within(head.n_c, &out);
-    let answer = packing::t64::unpack_indices(
-        head.width as usize,
-        &packed[..n],
-        &indices[..k],
-        &mut out[..m],
-    );
-    *c = widened(&out);
-    Reply::of(answer)
-}
-
-fn delta(head: Head, a: &Wide, b: &Wide, c: &mut Wide) -> Reply {
-    let values = narrowed(a);
-    let base = narrowed(b);
-    let mut out = narrowed(c);
-    let n = within(head.n_a, &values);
-    let k = within(head.n_b, &base);
-    let m = within(head.n_c, &out);
-    let answer = deltas::t64::delta(&values[..n], &base[..k], &mut out[..m]);
-    *c = widened(&out);
-    Reply::of(answer)
-}
-
-fn undelta(head: Head, a: &Wide, b: &Wide, c: &mut Wide) -> Reply {
-    let numbers = narrowed(a);
-    let base = narrowed(b);
-    let mut out = narrowed(c);
-    let n = within(head.n_a, &numbers);
-    let k = within(head.n_b, &base);
-    let m = within(head.n_c, &out);
-    let answer = deltas::t64::undelta(&numbers[..n], &base[..k], &mut out[..m]);
-    *c = widened(&out);
-    Reply::of(answer)
-}
-
-fn undelta_pack(head: Head, a: &Wide, b: &Wide, c: &mut Wide) -> Reply {
-    let packed = narrowed(a);
-    let base = narrowed(b);
-    let mut out = narrowed(c);
-    let n = within(head.n_a, &packed);
-    let k = within(head.n_b, &base);
-    let m = within(head.n_c, &out);
-    let answer = deltas::t64::undelta_pack(
-        head.width as usize,
-        &packed[..n],
-        &base[..k],
-        &mut out[..m],
-    );
-    *c = widened(&out);
-    Reply::of(answer)
-}
-
-fn for_pack(head: Head, a: &Wide, c: &mut Wide) -> Reply {
-    let values = narrowed(a);
-    let mut out = narrowed(c);
-    let n = within(head.n_a, &values);
-    let m = within(head.n_c, &out);
-    let reference = narrow_u64(head.reference);
-    let answer = deltas::t64::for_pack(head.width as usize, &values[..n], reference, &mut out[..m]);
-    *c = widened(&out);
-    Reply::of(answer)
-}
-
-fn unfor_pack(head: Head, a: &Wide, c: &mut Wide) -> Reply {
-    let packed = narrowed(a);
-    let mut out = narrowed(c);
-    let n = within(head.n_a, &packed);
-    let m = within(head.n_c, &out);
-    let reference = narrow_u64(head.reference);
-    let answer = deltas::t64::unfor_pack(
-        head.width as usize,
-        &packed[..n],
-        reference,
-        &mut out[..m],
-    );
-    *c = widened(&out);
-    Reply::of(answer)
-}
-
-fn encode(head: Head, a: &Wide, c: &mut Wide, d: &mut Wide) -> Reply {
-    let values = narrowed(a);
-    let mut dictionary = narrowed(c);
-    let mut indices = crate::t16::narrowed(d);
-    let n = within(head.n_a, &values);
-    let m = within(head.n_c, &dictionary);
-    let k = crate::t16::within(head.n_d, &indices);
-    let encoded = runs::t64::encode(&values[..n], &mut dictionary[..m], &mut indices[..k]);
-    *c = widened(&dictionary);
-    *d = crate::t16::widened(&indices);
-    match encoded {
-        runs::Encoded::Count(n) => Reply::Given {
-            number: 0,
-            place: 0,
-            value: n as Word,
-        },
-        runs::Encoded::Refused(answer) => Reply::of(answer),
-    }
-}
-
-fn decode(head: Head, a: &Wide, b: &Wide, c: &mut Wide) -> Reply {
-    let dictionary = narrowed(a);
-    let indices = crate::t16::narrowed(b);
-    let mut out = narrowed(c);
-    let n = within(head.n_a, &dictionary);
-    let k = crate::t16::within(head.n_b, &indices);
-    let m = within(head.n_c, &out);
-    let answer = runs::t64::decode(&dictionary[..n], &indices[..k], &mut out[..m]);
-    *c = widened(&out);
-    Reply::of(answer)
-}
-
-fn transpose(head: Head, a: &Wide, c: &mut Wide) -> Reply {
-    let values = narrowed(a);
-    let mut out = narrowed(c);
-    let n = within(head.n_a, &values);
-    let m = within(head.n_c, &out);
-    let answer = places::t64::transpose(&values[..n], &mut out[..m]);
-    *c = widened(&out);
-    Reply::of(answer)
-}
-
-fn untranspose(head: Head, a: &Wide, c: &mut Wide) -> Reply {
-    let values = narrowed(a);
-    let mut out = narrowed(c);
-    let n = within(head.n_a, &values);
-    let m = within(head.n_c, &out);
-    let answer = places::t64::untranspose(&values[..n], &mut out[..m]);
-    *c = widened(&out);
-    Reply::of(answer)
-}
-
-fn transpose_bits(head: Head, a: &Wide, c: &mut Wide) -> Reply {
-    if head.n_a != 16 {
-        return Reply::Unknown;
-    }
-    if head.n_c != 16 {
-        return Reply::Unknown;
-    }
-    put_bits(bits::t64::transpose_bits(bits_at_front(a)), c);
-    Reply::Given {
-        number: 0,
-        place: 0,
-        value: 0,
-    }
+// Of a refused single access the value is 0.
+fn single(single: Single) -> Reply {
+    Reply::with_value(single.answer(), widen_u64(single.value()))
 }
 
 // A count of the head, as a count of x's elements. The head's counts are within every buffer. The contract says so of
