@@ -1,0 +1,50 @@
+-- `bodies::differences_through` meets its contract.
+-- Assumes nothing.
+use borrow.Author.Needs.{needs}
+use Rattle.bodies.proofs.differences_through.Statement.{statement}
+use Rattle.bodies.proofs.differences_through.Tie as tie
+
+read-words-requires : tie.Need-read-words-requires
+read-words-requires c κs = search needs
+
+sub-read-words : tie.Need-sub-read-words
+sub-read-words c = search needs
+
+part-read-words-start : tie.Need-part-read-words-start
+part-read-words-start c = search needs
+
+part-read-words-end : tie.Need-part-read-words-end
+part-read-words-end c = search needs
+
+read-words-requires-2 : tie.Need-read-words-requires-2
+read-words-requires-2 c κs = search needs
+
+undelta-pack-requires : tie.Need-undelta-pack-requires
+undelta-pack-requires c κs = search needs
+
+same-length : tie.Need-same-length
+same-length c = search needs
+
+same-length-2 : tie.Need-same-length-2
+same-length-2 c = search needs
+
+same-length-3 : tie.Need-same-length-3
+same-length-3 c = search needs
+
+returns : tie.Need-returns
+returns c = ?
+
+pub differences-through-spec : {M : Type 1} → statement M
+differences-through-spec =
+    tie.close
+    (tie.spec
+    read-words-requires
+    sub-read-words
+    part-read-words-start
+    part-read-words-end
+    read-words-requires-2
+    undelta-pack-requires
+    same-length
+    same-length-2
+    same-length-3
+    returns)

@@ -1,0 +1,201 @@
+// One body of a column file against its entry, and the block that it stands for (document 02, Item 1). A program that holds the
+// contents of a file and one body at a time needs no more than this and the crate contents.
+use contents::Entry;
+use contents::FileAnswer;
+use deltas::t64::undelta_pack;
+use deltas::t64::unfor_pack;
+use little::read_pairs;
+use little::read_words;
+use packing::t64::unpack;
+use places::Answer;
+use runs::highest;
+use runs::t64::decode;
+ghost use mathlib.Core.Path.{_≡_};
+ghost use mathlib.Core.Bool.{true};
+ghost use mathlib.Core.List.{[], _∷_};
+ghost use Prim.Native.Nat.{_+_, _*_, _≤_, _<_};
+ghost use lib.ListN.{length};
+ghost use Rattle.places.specs.Pick.{pick};
+ghost use Rattle.places.specs.Sizes.{t64, lanes};
+ghost use Rattle.places.specs.Takes.{answerFor};
+ghost use Rattle.deltas.specs.Deltas.{undeltaPackOf};
+ghost use Rattle.runs.specs.Calls.{decodeTakes, decodeLeaves};
+ghost use Rattle.runs.specs.Highest.{highestOf};
+ghost use Rattle.runs.specs.Runs.{decodeOf};
+ghost use Rattle.contents.specs.Answers.{good-runs, fileAnswer};
+ghost use Rattle.contents.specs.Contents.{isLaidOut};
+ghost use Rattle.bodies.specs.Bodies.{runIndices, wordsFrom, packedFrom, blockOf, indexed, hasGoodRuns, bodyTests, blockTests, blockLeaves};
+
+// Whether the body is as its entry says.
+pub fn check(e: Entry, body: &[u8]) -> FileAnswer
+    ensures { λ r. ⌜ r ≡ fileAnswer (bodyTests e (now (body .entry))) ⌝ }
+{
+    if !e.is_laid_out() {
+        return FileAnswer::Entry(0);
+    }
+    let size = e.length as usize;
+    if body.len() < size {
+        return FileAnswer::Cut;
+    }
+    if size < body.len() {
+        return FileAnswer::Over;
+    }
+    if !has_good_runs(e, body) {
+        return FileAnswer::Runs(0);
+    }
+    FileAnswer::Done
+}
+
+// Lays down the block that the entry and its body stand for.
+pub fn block_of(e: Entry, body: &[u8], output: &mut [u64]) -> FileAnswer
+    ensures { λ r. ⌜ r ≡ fileAnswer (blockTests e (now (body .entry)) (now (output .entry))) ⌝ }
+    ensures { λ _. ⌜ now (output .exit) ≡ blockLeaves e (now (body .entry)) (now (output .entry)) ⌝ }
+{
+    if output.len() != 1024 {
+        return FileAnswer::Block;
+    }
+    if !e.is_laid_out() {
+        return FileAnswer::Entry(0);
+    }
+    let size = e.length as usize;
+    if body.len() < size {
+        return FileAnswer::Cut;
+    }
+    if size < body.len() {
+        return FileAnswer::Over;
+    }
+    lay_down(e, body, output)
+}
+
+// Whether every run index is in range, in a body of as many bytes as its entry says.
+fn has_good_runs(e: Entry, body: &[u8]) -> bool
+    requires { ⌜ isLaidOut e ≡ true ⌝ }
+    requires { ⌜ length (now body) ≡ e .length ⌝ }
+    ensures { λ r. ⌜ r ≡ hasGoodRuns e (now (body .entry)) ⌝ }
+{
+    if e.kind != 3 {
+        return true;
+    }
+    let n = (e.length - 2048) / 8;
+    highest_index(body) < n
+}
+
+// The highest run index of a body of runs.
+fn highest_index(body: &[u8]) -> u32
+    requires { ⌜ 2048 ≤ length (now body) ⌝ }
+    ensures { λ r. ⌜ r ≡ highestOf (runIndices (now (body .entry))) ⌝ }
+{
+    let mut indices = [0u16; 1024];
+    read_pairs(body, &mut indices);
+    highest(&indices) as u32
+}
+
+// The block of a body that is as its entry says, up to the run indices, which decode looks at.
+fn lay_down(e: Entry, body: &[u8], output: &mut [u64]) -> FileAnswer
+    requires { ⌜ isLaidOut e ≡ true ⌝ }
+    requires { ⌜ length (now body) ≡ e .length ⌝ }
+    requires { ⌜ length (now output) ≡ 1024 ⌝ }
+    ensures { λ r. ⌜ r ≡ fileAnswer (good-runs (pick (hasGoodRuns e (now (body .entry))) 1 0) 1 ∷ []) ⌝ }
+    ensures { λ _. ⌜ now (output .exit) ≡ pick (hasGoodRuns e (now (body .entry))) (blockOf e (now (body .entry))) (now (output .entry)) ⌝ }
+{
+    let kind = e.kind;
+    match kind {
+        2 => {
+            differences_out(e.width as usize, body, output);
+            FileAnswer::Done
+        }
+        3 => runs_out(((e.length - 2048) / 8) as usize, body, output),
+        _ => {
+            packed_out(e, body, output);
+            FileAnswer::Done
+        }
+    }
+}
+
+// The block of a packed body or of a frame. Its words go by way of an array, of which the part that they fill is lent.
+fn packed_out(e: Entry, body: &[u8], output: &mut [u64])
+    requires { ⌜ (e .kind < 2) × (e .width ≤ 64) ⌝ }
+    requires { ⌜ length (now body) ≡ 128 * e .width ⌝ }
+    requires { ⌜ length (now output) ≡ 1024 ⌝ }
+    ensures { λ _. ⌜ now (output .exit) ≡ blockOf e (now (body .entry)) ⌝ }
+{
+    let mut words = [0u64; 1024];
+    let n = e.width as usize * 16;
+    packed_through(e, body, &mut words[..n], output);
+}
+
+fn packed_through(e: Entry, body: &[u8], words: &mut [u64], output: &mut [u64])
+    requires { ⌜ (e .kind < 2) × (e .width ≤ 64) ⌝ }
+    requires { ⌜ length (now body) ≡ 128 * e .width ⌝ }
+    requires { ⌜ length (now words) ≡ 16 * e .width ⌝ }
+    requires { ⌜ length (now output) ≡ 1024 ⌝ }
+    ensures { λ _. ⌜ now (output .exit) ≡ blockOf e (now (body .entry)) ⌝ }
+{
+    read_words(body, words);
+    if e.kind == 0 {
+        unpack(e.width as usize, words, output);
+    } else {
+        unfor_pack(e.width as usize, words, e.reference, output);
+    }
+}
+
+// The block of a body of sixteen base words and packed differences.
+fn differences_out(width: usize, body: &[u8], output: &mut [u64])
+    requires { ⌜ width ≤ 64 ⌝ }
+    requires { ⌜ length (now body) ≡ 128 + 128 * width ⌝ }
+    requires { ⌜ length (now output) ≡ 1024 ⌝ }
+    ensures { λ _. ⌜ now (output .exit) ≡ undeltaPackOf t64 width (packedFrom (now (body .entry)) 128 width) (wordsFrom (now (body .entry)) 0 (lanes t64)) ⌝ }
+{
+    let mut base = [0u64; 16];
+    let mut words = [0u64; 1024];
+    let n = width * 16;
+    differences_through(width, body, &mut base, &mut words[..n], output);
+}
+
+fn differences_through(
+    width: usize,
+    body: &[u8],
+    base: &mut [u64],
+    words: &mut [u64],
+    output: &mut [u64],
+)
+    requires { ⌜ width ≤ 64 ⌝ }
+    requires { ⌜ length (now body) ≡ 128 + 128 * width ⌝ }
+    requires { ⌜ length (now base) ≡ 16 ⌝ }
+    requires { ⌜ length (now words) ≡ 16 * width ⌝ }
+    requires { ⌜ length (now output) ≡ 1024 ⌝ }
+    ensures { λ _. ⌜ now (output .exit) ≡ undeltaPackOf t64 width (packedFrom (now (body .entry)) 128 width) (wordsFrom (now (body .entry)) 0 (lanes t64)) ⌝ }
+{
+    read_words(body, base);
+    read_words(&body[128..], words);
+    undelta_pack(width, words, base, output);
+}
+
+// The block of a body of run indices and n run values. Decode looks at the indices, and writes nothing where one is out of range.
+fn runs_out(n: usize, body: &[u8], output: &mut [u64]) -> FileAnswer
+    requires { ⌜ n ≤ 1024 ⌝ }
+    requires { ⌜ length (now body) ≡ 2048 + 8 * n ⌝ }
+    requires { ⌜ length (now output) ≡ 1024 ⌝ }
+    ensures { λ r. ⌜ r ≡ fileAnswer (good-runs (pick (indexed n (now (body .entry))) 1 0) 1 ∷ []) ⌝ }
+    ensures { λ _. ⌜ now (output .exit) ≡ pick (indexed n (now (body .entry))) (decodeOf (wordsFrom (now (body .entry)) 2048 n) (runIndices (now (body .entry)))) (now (output .entry)) ⌝ }
+{
+    let mut indices = [0u16; 1024];
+    let mut values = [0u64; 1024];
+    let answer = runs_through(body, &mut indices, &mut values[..n], output);
+    if answer.number() == 0 {
+        return FileAnswer::Done;
+    }
+    FileAnswer::Runs(0)
+}
+
+fn runs_through(body: &[u8], indices: &mut [u16], values: &mut [u64], output: &mut [u64]) -> Answer
+    requires { ⌜ length (now body) ≡ 2048 + 8 * length (now values) ⌝ }
+    requires { ⌜ length (now indices) ≡ 1024 ⌝ }
+    requires { ⌜ length (now output) ≡ 1024 ⌝ }
+    ensures { λ r. ⌜ r ≡ answerFor (decodeTakes (wordsFrom (now (body .entry)) 2048 (length (now (values .entry)))) (runIndices (now (body .entry))) (now (output .entry))) ⌝ }
+    ensures { λ _. ⌜ now (output .exit) ≡ decodeLeaves (wordsFrom (now (body .entry)) 2048 (length (now (values .entry)))) (runIndices (now (body .entry))) (now (output .entry)) ⌝ }
+{
+    read_pairs(body, indices);
+    read_words(&body[2048..], values);
+    decode(values, indices, output)
+}
