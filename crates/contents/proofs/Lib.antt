@@ -2,3 +2,4 @@ pub mod Answers
 pub mod Checks
 pub mod Entries
 pub mod First
+pub mod Laid

@@ -4,4 +4,5 @@ pub mod Every
 pub mod Places
 pub mod Search
 pub mod Tabs
+pub mod Tests
 pub mod Walks

@@ -18,28 +18,9 @@ use Rattle.places.specs.Search.{firstBeyond}
 use Rattle.places.specs.Sizes.{lanes}
 use Rattle.places.specs.Takes.{Taken, passes, refusal, answerFor}
 use Rattle.places.specs.Takes.{a-width, a-block, a-packed, a-base, two-lists, an-index, an-index-list, dictionary-indices}
+use Rattle.places.proofs.Tests.{both-true, either-true, either-false, false-true}
 use Rattle.places.proofs.Search.{first-beyond-le, first-beyond-before, first-beyond-at, first-beyond-only, first-beyond-none}
 use Rattle.promises.specs.Tables.{Lowest, numberFor, Condition, Applies, Given, Gives, Exactly}
-
--- ---- tests
-
--- What two tests as one tell of each, and that a test does not both pass and fail.
-both-true : (a b : Bool) → both a b ≡ true → (a ≡ true) × (b ≡ true)
-both-true true b e = (refl, e)
-both-true false true e = (e, refl)
-both-true false false e = (e, e)
-
-either-true : (a b : Bool) → either a b ≡ true → (a ≡ true) ⊎ (b ≡ true)
-either-true true b e = inl refl
-either-true false b e = inr e
-
-either-false : (a b : Bool) → either a b ≡ false → (a ≡ false) × (b ≡ false)
-either-false true true e = (e, e)
-either-false true false e = (e, refl)
-either-false false b e = (refl, e)
-
-false-true : false ≡ true → ⊥
-false-true e = eqb-false 0 0 (sym e) refl
 
 -- ---- the lowest place
 

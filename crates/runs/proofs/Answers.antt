@@ -13,7 +13,7 @@ use Rattle.places.specs.Search.{firstBeyond}
 use Rattle.places.specs.Takes.{answerFor}
 use Rattle.runs.specs.Calls.{answerOf, countOf, encoded, encodeTakes, encodedOf, decodeTakes}
 use Rattle.runs.specs.Runs.{runCount}
-use Rattle.runs.specs.InnerHighest.{highestOf}
+use Rattle.runs.specs.Highest.{highestOf}
 use Rattle.runs.proofs.Highs.{highest-beyond}
 
 encoded-answer : (a : Answer) (n : ℕ) → answerOf (encoded a n) ≡ a

@@ -10,7 +10,7 @@ use native.Mathlib.Omega.{arith}
 use lib.ListN.{length, getD, drop, drop-of-length-le}
 use lib.Seq.{drop-cons}
 use Rattle.places.specs.Search.{firstBeyond}
-use Rattle.runs.specs.InnerHighest.{highestOf}
+use Rattle.runs.specs.Highest.{highestOf}
 use Rattle.places.proofs.Search.{first-beyond-none}
 
 -- no number of the list is higher

@@ -1,3 +1,3 @@
 pub mod Calls
-pub mod InnerHighest
+pub mod Highest
 pub mod Runs

@@ -11,7 +11,7 @@ use places::Answer;
 ghost use mathlib.Core.Path.{_≡_};
 ghost use Rattle.places.specs.Search.{firstBeyond};
 ghost use Rattle.runs.specs.Calls.{answerOf, countOf};
-ghost use Rattle.runs.specs.InnerHighest.{highestOf};
+ghost use Rattle.runs.specs.Highest.{highestOf};
 
 // What encode answers: how many runs there are, or why it is refused.
 pub enum Encoded {
@@ -61,7 +61,7 @@ fn first_beyond(indices: &[u16], limit: usize) -> usize
 
 // The highest index; 0 where there is none. A walk that always goes to the end takes many indices at a step, so decode
 // tests the highest one, and searches only where there is a bad one to find.
-fn highest(indices: &[u16]) -> u16
+pub fn highest(indices: &[u16]) -> u16
     ensures { λ r. ⌜ r ≡ highestOf (now (indices .entry)) ⌝ }
 {
     let mut high: u16 = 0;

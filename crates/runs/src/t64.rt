@@ -8,7 +8,7 @@ ghost use Prim.Native.Nat.{_<_};
 ghost use lib.ListN.{length};
 ghost use Rattle.places.specs.Takes.{answerFor};
 ghost use Rattle.runs.specs.Calls.{encodedOf, dictionaryLeaves, indicesLeaves, decodeTakes, decodeLeaves};
-ghost use Rattle.runs.specs.InnerHighest.{highestOf};
+ghost use Rattle.runs.specs.Highest.{highestOf};
 ghost use Rattle.runs.specs.Runs.{runCount, dictionaryOf, indicesOf, decodeOf};
 
 // Stores each run's value in order, and for each place the number of its run; gives the number of runs.
