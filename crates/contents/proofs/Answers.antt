@@ -26,7 +26,7 @@ unfolding fileAnswer
 none-left = refl
 
 -- Where the tests in front are done, those behind them decide.
-refusal-not-done : (x : FileTest) → refusal x ≡ Done → ⊥
+pub refusal-not-done : (x : FileTest) → refusal x ≡ Done → ⊥
 refusal-not-done (a-block output) e = let z : _≡_ {A = ℕ} 0 1 = cc in omega arith
 refusal-not-done (enough needed there) e = let z : _≡_ {A = ℕ} 0 1 = cc in omega arith
 refusal-not-done (an-edition edition count) e = let z : _≡_ {A = ℕ} 0 1 = cc in omega arith

@@ -1,3 +1,4 @@
+pub mod Accepted
 pub mod Answers
 pub mod Checks
 pub mod Entries

@@ -1,0 +1,72 @@
+-- What holds of contents that are accepted, and that nothing else is accepted.
+-- Assumes nothing.
+use mathlib.Core.Bool.{Bool, true, false}
+use mathlib.Core.List.{List, [], _∷_}
+use mathlib.Core.Logic.{_↔_}
+use mathlib.Core.Path.{_≡_, refl, sym, ap₂, _∙_}
+use Prim.Native.Nat.{ℕ, _≤_, _<_}
+use native.Mathlib.Omega.{arith}
+use lib.Dec.{eqb, leb}
+use lib.ListN.{length}
+use borrow.Author.Tests.{le-leb, leb-true, eq-eqb, eqb-true}
+use Rattle.places.specs.Pick.{both}
+use Rattle.places.proofs.Tests.{both-true}
+use Rattle.contents.specs.declared.FileAnswer.the-variants.{Done}
+use Rattle.contents.specs.Answers.{FileTest, passes, fileAnswer}
+use Rattle.contents.specs.Contents.{edition, count, contentsSize, entryOf, isLaidOut, badEntry, bodyStart, contentsTests}
+use Rattle.contents.specs.First.{firstBad}
+use Rattle.contents.proofs.Answers.{passed, stopped, none-left, refusal-not-done}
+use Rattle.contents.proofs.Checks.{entries-there, entries-done}
+use Rattle.contents.proofs.First.{first-only, first-before}
+
+-- A call that is done has passed its first test, and is done with the others.
+pub done-first : (x : FileTest) (xs : List FileTest) → fileAnswer (x ∷ xs) ≡ Done → (passes x ≡ true) × (fileAnswer xs ≡ Done)
+done-first x xs e = go (passes x) refl
+  where
+    go : (b : Bool) → passes x ≡ b → (passes x ≡ true) × (fileAnswer xs ≡ Done)
+    go true p = (p, sym (passed x xs p) ∙ e)
+    go false p = absurd (refusal-not-done x (sym (stopped x xs p) ∙ e))
+
+-- The contents in l are those of a file of `size` bytes.
+pub record Whole (l : List ℕ) (size : ℕ) : Type 0 where
+  pub head : 4 ≤ length l
+  pub first : edition l ≡ 1
+  pub few : count l ≤ 256
+  pub room : contentsSize (count l) ≤ length l
+  pub laid : (i : ℕ) → i < count l → isLaidOut (entryOf l i) ≡ true
+  pub end : bodyStart l (count l) ≡ size
+
+module _ (l : List ℕ) (size : ℕ) where
+  -- Where every entry is as laid out, none is the lowest bad one, and the other way round.
+  none-bad : ((i : ℕ) → i < count l → isLaidOut (entryOf l i) ≡ true) → badEntry l ≡ count l
+  unfolding badEntry
+  none-bad laid = sym (first-only (count l) (count l) (λ i. isLaidOut (entryOf l i)) (omega arith) laid (λ h. absurd (omega arith)))
+
+  all-laid : badEntry l ≡ count l → (i : ℕ) → i < count l → isLaidOut (entryOf l i) ≡ true
+  unfolding badEntry
+  all-laid e i h = first-before (count l) (λ i. isLaidOut (entryOf l i)) i (omega arith)
+
+  pub accepted : fileAnswer (contentsTests l size) ≡ Done → Whole l size
+  accepted done =
+      let t0 = done-first _ _ done in
+      let t1 = done-first _ _ (t0 .1) in
+      let t2 = done-first _ _ (t1 .1) in
+      let t3 = done-first _ _ (t2 .1) in
+      let t4 = done-first _ _ (t3 .1) in
+      let t5 = done-first _ _ (t4 .1) in
+      let e = both-true (eqb (edition l) 1) (leb (count l) 256) (t1 .0) in
+      let low : bodyStart l (count l) ≤ size = leb-true (bodyStart l (count l)) size (t4 .0) in
+      let high : size ≤ bodyStart l (count l) = leb-true size (bodyStart l (count l)) (t5 .0) in
+      record {
+        head = leb-true 4 (length l) (t0 .0);
+        first = eqb-true (edition l) 1 (e .0);
+        few = leb-true (count l) 256 (e .1);
+        room = leb-true (contentsSize (count l)) (length l) (t2 .0);
+        laid = all-laid (eqb-true (badEntry l) (count l) (t3 .0));
+        end = omega arith;
+      }
+
+  pub accepts : Whole l size → fileAnswer (contentsTests l size) ≡ Done
+  accepts w =
+      entries-there l size (w .head) (w .first) (w .few) (w .room)
+      ∙ entries-done l size (none-bad (w .laid)) (omega (arith, w .end)) (omega (arith, w .end))
