@@ -22,13 +22,13 @@ ghost use Rattle.bits.specs.Bits.{untransposeBitsOf, bitOf};
 ghost use Rattle.bits.specs.InnerSteps.{bytesOf, gatherOf, exchangeOf, turnOf, gathersOf, turnsOf, scatterStart, unscatterStart, ungroupStart, byteOf};
 
 // Bit p of a block is bit p mod 64 of number p / 64, lowest first.
-pub type Block = [u64; 16];
+pub type BitBlock = [u64; 16];
 
 // The bytes of a block, the lowest byte of each number first.
 type Bytes = [u8; 128];
 
 // Moves the bits of a block that was transposed for T 64 back to where they came from.
-pub fn untranspose_bits(block: Block) -> Block
+pub fn untranspose_bits(block: BitBlock) -> BitBlock
     ensures { λ r. ⌜ r ≡ untransposeBitsOf block ⌝ }
 {
     ungroup(unscatter(block))
@@ -55,7 +55,7 @@ fn exchange(x: u64, mask: u64, shift: u32) -> u64
 }
 
 // The bytes of a block.
-fn bytes_of(block: Block) -> Bytes
+fn bytes_of(block: BitBlock) -> Bytes
     ensures { λ r. ⌜ r ≡ bytesOf block ⌝ }
 {
     let mut bytes: Bytes = [0; 128];
@@ -101,11 +101,11 @@ fn wide(x: u8) -> u64
 }
 
 // Lays out the groups of a transpose: byte i of group g becomes byte 16 · i + g of the output.
-fn scatter(groups: Block) -> Block
+fn scatter(groups: BitBlock) -> BitBlock
     ensures { λ r. ⌜ r ≡ gathersOf scatterStart 8 groups ⌝ }
 {
     let bytes = bytes_of(groups);
-    let mut out: Block = [0; 16];
+    let mut out: BitBlock = [0; 16];
     let mut w = 0;
     while w < 16 {
         out[w] = gather(&bytes, w % 2 * 64 + w / 2, 8);
@@ -116,11 +116,11 @@ fn scatter(groups: Block) -> Block
 
 // Takes up the groups again, for T 64: group g has the eight bytes that belong to byte g mod 8 of the words of eight
 // lanes, those from 8 · (g / 8) on.
-fn unscatter(block: Block) -> Block
+fn unscatter(block: BitBlock) -> BitBlock
     ensures { λ r. ⌜ r ≡ turnsOf unscatterStart 16 block ⌝ }
 {
     let bytes = bytes_of(block);
-    let mut groups: Block = [0; 16];
+    let mut groups: BitBlock = [0; 16];
     let mut g = 0;
     while g < 16 {
         groups[g] = transpose_8x8(gather(&bytes, order(g % 8) * 2 + g / 8, 16));
@@ -130,11 +130,11 @@ fn unscatter(block: Block) -> Block
 }
 
 // Lays out those groups: word w is the word of lane w, and has byte w mod 8 of eight groups.
-fn ungroup(groups: Block) -> Block
+fn ungroup(groups: BitBlock) -> BitBlock
     ensures { λ r. ⌜ r ≡ gathersOf ungroupStart 8 groups ⌝ }
 {
     let bytes = bytes_of(groups);
-    let mut out: Block = [0; 16];
+    let mut out: BitBlock = [0; 16];
     let mut w = 0;
     while w < 16 {
         out[w] = gather(&bytes, w / 8 * 64 + w % 8, 8);
