@@ -1,0 +1,241 @@
+"""The model of the reader: document 02, Item 1, from its text alone.
+
+A column file, little-endian throughout:
+
+    edition u16 (1), number of blocks N u16 (0 to 256)
+    N entries of 16 bytes: kind u8, width u8, zero u16, body length u32, reference u64
+    the bodies, back to back, and nothing after them
+
+    kind 0, packed        width 0 to 64, reference 0      128·W bytes: the packed words
+    kind 1, frame         width 0 to 64, any reference    128·W bytes: the packed words
+    kind 2, differences   width 0 to 64, reference 0      128 + 128·W bytes: sixteen base words, the packed words
+    kind 3, runs          width 0, reference 0            2048 + 8·n bytes: 1,024 indices u16, n values (1 to 1,024)
+
+The tests stand in Item 1's own order, which is not the order of their numbers: TESTS has those of the file. Before
+them stands 2, the length of the block output, and after them 12, a row or block number that is too high.
+"""
+import functools
+import struct
+from typing import NamedTuple
+
+from . import layout
+
+PACKED, FRAME, DIFFERENCES, RUNS = range(4)
+KINDS = ("packed", "frame", "differences", "runs")
+EDITION = 1
+MOST_BLOCKS = 256
+HEAD = struct.Struct("<HH")
+ENTRY = struct.Struct("<BBHIQ")
+INDICES = struct.Struct("<1024H")
+BASE_BYTES = 8 * layout.LANES
+
+
+class Answer(NamedTuple):
+    """The number and the place that a call gives, and a sentence for a person."""
+
+    number: int
+    place: int
+    why: str
+
+
+class Entry(NamedTuple):
+    kind: int
+    width: int
+    zero: int
+    length: int
+    reference: int
+
+
+ACCEPTED = Answer(0, 0, "the file is accepted")
+
+
+# The contents. Each of these may be asked once the bytes that it reads are known to be there.
+
+
+def edition_of(data):
+    return HEAD.unpack_from(data)[0]
+
+
+def count_of(data):
+    """The number of blocks N."""
+    return HEAD.unpack_from(data)[1]
+
+
+def entry_at(data, i):
+    return Entry(*ENTRY.unpack_from(data, HEAD.size + ENTRY.size * i))
+
+
+def entries_of(data):
+    return [entry_at(data, i) for i in range(count_of(data))]
+
+
+def contents_size(data):
+    """The bytes of the head and the entries together."""
+    return HEAD.size + ENTRY.size * count_of(data)
+
+
+def spans(data):
+    """Where each body stands by the lengths of the entries: its first byte, and the byte after its last."""
+    at, out = contents_size(data), []
+    for entry in entries_of(data):
+        out.append((at, at + entry.length))
+        at += entry.length
+    return out
+
+
+def end_of(data):
+    """Where the last body ends."""
+    return contents_size(data) + sum(entry.length for entry in entries_of(data))
+
+
+def bodies_of(data):
+    return [data[start:end] for start, end in spans(data)]
+
+
+# The tests of a file. Each may rely on those before it in TESTS, and gives None where the file passes.
+
+
+def head_short(data):
+    if len(data) < HEAD.size:
+        return Answer(8, 0, f"the file has {len(data)} bytes, and edition and number of blocks take 4")
+
+
+def head_wrong(data):
+    if edition_of(data) != EDITION:
+        return Answer(9, 0, f"the edition is {edition_of(data)}, and only {EDITION} is read")
+    if count_of(data) > MOST_BLOCKS:
+        return Answer(9, 0, f"the file says that it has {count_of(data)} blocks, and {MOST_BLOCKS} is the most")
+
+
+def entries_short(data):
+    if len(data) < contents_size(data):
+        return Answer(8, 0, f"the entries go to byte {contents_size(data)}, and the file has {len(data)} bytes")
+
+
+def lengths_for(kind, width):
+    """The body lengths that a kind and a width ask for."""
+    if kind == RUNS:
+        return range(2048 + 8, 2048 + 8 * 1024 + 1, 8)
+    return (128 * width + (BASE_BYTES if kind == DIFFERENCES else 0),)
+
+
+def entry_fault(entry):
+    """What of an entry is not as laid out, in words; None where all of it is."""
+    if entry.kind > RUNS:
+        return f"the kind is {entry.kind}, and there are only 0 to 3"
+    name = f"kind {entry.kind} ({KINDS[entry.kind]})"
+    if entry.kind == RUNS and entry.width != 0:
+        return f"the width is {entry.width}, and {name} asks for 0"
+    if entry.width > layout.T:
+        return f"the width is {entry.width}, and {name} asks for 0 to 64"
+    if entry.zero != 0:
+        return f"the field that has to be zero is {entry.zero}"
+    lengths = lengths_for(entry.kind, entry.width)
+    if entry.length not in lengths:
+        asked = "2048 + 8n with n from 1 to 1024" if entry.kind == RUNS else f"{lengths[0]} at width {entry.width}"
+        return f"the body length is {entry.length}, and {name} asks for {asked}"
+    if entry.kind != FRAME and entry.reference != 0:
+        return f"the reference is {entry.reference}, and {name} asks for 0"
+    return None
+
+
+def entry_wrong(data):
+    for i, entry in enumerate(entries_of(data)):
+        fault = entry_fault(entry)
+        if fault:
+            return Answer(10, i, f"entry {i}: {fault}")
+
+
+def bodies_short(data):
+    if len(data) < end_of(data):
+        return Answer(8, 0, f"the bodies go to byte {end_of(data)}, and the file has {len(data)} bytes")
+
+
+def bytes_left(data):
+    if len(data) > end_of(data):
+        return Answer(11, 0, f"the last body ends at byte {end_of(data)}, and the file has {len(data)} bytes")
+
+
+def run_values(entry):
+    """The number n of values of a run block, by its length."""
+    return (entry.length - INDICES.size) // 8
+
+
+def index_fault(entry, body):
+    """The lowest run index that is out of range, in words; None where there is none, or the block has no runs."""
+    if entry.kind != RUNS:
+        return None
+    n = run_values(entry)
+    for p, index in enumerate(INDICES.unpack_from(body)):
+        if index >= n:
+            return f"the run index at place {p} is {index}, and the number of values is {n}"
+    return None
+
+
+def runs_wrong(data):
+    for i, (entry, body) in enumerate(zip(entries_of(data), bodies_of(data))):
+        fault = index_fault(entry, body)
+        if fault:
+            return Answer(13, i, f"block {i}: {fault}")
+
+
+TESTS = (head_short, head_wrong, entries_short, entry_wrong, bodies_short, bytes_left, runs_wrong)
+
+
+# The values of a block.
+
+
+def words_of(body):
+    return struct.unpack(f"<{len(body) // 8}Q", body)
+
+
+@functools.lru_cache(maxsize=64)
+def block_values(entry, body):
+    """The 1,024 values of a block of an accepted file."""
+    if entry.kind == RUNS:
+        return layout.decode(words_of(body[INDICES.size :]), INDICES.unpack_from(body))
+    if entry.kind == DIFFERENCES:
+        differences = layout.unpack(entry.width, words_of(body[BASE_BYTES:]))
+        return layout.undelta(differences, words_of(body[:BASE_BYTES]))
+    digits = layout.unpack(entry.width, words_of(body))
+    return [(entry.reference + digit) % 2**layout.T for digit in digits]
+
+
+def values_of(data, block):
+    """The values of one block of an accepted file, which has that block."""
+    start, end = spans(data)[block]
+    return block_values(entry_at(data, block), data[start:end])
+
+
+# The three calls. The second thing that two of them give is None where the call is refused.
+
+
+def check(data):
+    """Item 1's check of the whole file: never 2 and never 12."""
+    for test in TESTS:
+        answer = test(data)
+        if answer:
+            return answer
+    return ACCEPTED
+
+
+def block_out(data, block, room):
+    """One block out, into an output of that many numbers: the answer and the block's values."""
+    if room != 1024:
+        return Answer(2, 0, f"the output has {room} places, and a block has 1,024"), None
+    answer = check(data)
+    if answer.number:
+        return answer, None
+    if block >= count_of(data):
+        return Answer(12, 0, f"block {block} is asked for, and the file has {count_of(data)} blocks"), None
+    return ACCEPTED, values_of(data, block)
+
+
+def row_lookup(data, row):
+    """The value at a file row: place row mod 1,024 of block row / 1,024. The answer and the value."""
+    answer = check(data)
+    if answer.number:
+        return answer, None
+    if row // 1024 >= count_of(data):
+        return Answer(12, 0, f"row {row} is asked for, and the file has {1024 * count_of(data)} rows"), None
+    return ACCEPTED, values_of(data, row // 1024)[row % 1024]

@@ -1,0 +1,224 @@
+"""Holds the model and the cases to what can be said of them without running any of the port.
+
+Each check is a function that gives the things that are not so, in words. Numbers here are worked out by hand from
+documents 01 and 02.
+"""
+import io
+import struct
+
+from . import build, files, layout, mixed, sweep
+from .build import Dice, column_file
+from .files import DIFFERENCES, FRAME, PACKED, RUNS
+from .stream import BLOCK_OUT, CHECK, ROW_LOOKUP, Outcome, answered, cases, record, replay
+
+GIVEN = {  # The numbers that each call can give, from Item 1.
+    CHECK: {0, 8, 9, 10, 11, 13},
+    BLOCK_OUT: {0, 2, 8, 9, 10, 11, 12, 13},
+    ROW_LOOKUP: {0, 8, 9, 10, 11, 12, 13},
+}
+
+
+def unless(good, words):
+    if not good:
+        yield words
+
+
+def block_of(block):
+    """Block 0 of the file that has this block alone."""
+    answer, values = files.block_out(column_file([block]), 0, 1024)
+    return values if values else [answer] * 1024
+
+
+def worked_files():
+    """Item 1's two files: what they hold, and that building them gives the same bytes."""
+    sevens = build.frame(0, b"", 7)
+    yield from unless(column_file([]) == sweep.NO_BLOCKS, "the file of no blocks is not built as Item 1 has it")
+    yield from unless(column_file([sevens]) == sweep.SEVENS, "the file of sevens is not built as Item 1 has it")
+    yield from unless(files.check(sweep.NO_BLOCKS) == files.ACCEPTED, "the file of no blocks is not accepted")
+    yield from unless(files.row_lookup(sweep.NO_BLOCKS, 0)[0][:2] == (12, 0), "row 0 of no blocks is not 12")
+    yield from unless(files.check(sweep.SEVENS) == files.ACCEPTED, "the file of sevens is not accepted")
+    yield from unless(block_of(sevens) == [7] * 1024, "the file of sevens has other values")
+    yield from unless(files.row_lookup(sweep.SEVENS, 1023)[1] == 7, "row 1023 of the sevens is not 7")
+    yield from unless(files.row_lookup(sweep.SEVENS, 1024)[0][:2] == (12, 0), "row 1024 of the sevens is not 12")
+
+
+def lane_body(width, lane, number):
+    """A packed body of zeros, but for one lane, whose whole number is given as bytes, lowest first."""
+    body = bytearray(128 * width)
+    for k in range(width):
+        at = 8 * (16 * k + lane)
+        body[at : at + 8] = number[8 * k : 8 * k + 8]
+    return bytes(body)
+
+
+def by_rows(lane, value):
+    """A block of zeros, but for one lane, whose row r holds value(r)."""
+    block = [0] * 1024
+    for row in range(64):
+        block[(0, 64, 32, 96, 16, 80, 48, 112)[row // 8] + 128 * (row % 8) + lane] = value(row)
+    return block
+
+
+def packed_cases():
+    """Document 01's P4, P6 and P7, brought to 64 bits.
+
+    P6 has 0 to 7 by rows at width 3, which is the bytes 136, 198, 250. With 64 rows that comes eight times over, and
+    lane 0 has its three words at 0, 16 and 32. At width 6 a row can hold its own number.
+    """
+    yield from unless(layout.place(63, 15) == 1023, "P4: row 63 of lane 15 is not at 1023")
+    body = lane_body(3, 0, bytes((136, 198, 250)) * 8)
+    values = by_rows(0, lambda row: row % 8)
+    yield from unless(block_of(build.packed(3, body)) == values, "P6: the packed body has other values")
+    yield from unless(build.packed_bytes(3, values) == body, "P6: packing gives another body")
+    data = column_file([build.packed(3, body)])
+    yield from unless(files.row_lookup(data, 256)[1] == 2, "P7: row 256 is not 2")
+    yield from unless(files.row_lookup(data, 672)[1] == 5, "P7: row 672, in two words, is not 5")
+    body = lane_body(6, 3, sum(row * 64**row for row in range(64)).to_bytes(48, "little"))
+    values = by_rows(3, lambda row: row)
+    yield from unless(block_of(build.packed(6, body)) == values, "width 6: rows do not hold their own number")
+
+
+def frame_cases():
+    """P8, brought to 64 bits: value 3, reference 2^64 - 6, difference 9."""
+    for width, result in ((4, 3), (3, 2**64 - 5)):
+        body = build.packed_bytes(width, [9] * 1024)
+        values = block_of(build.frame(width, body, 2**64 - 6))
+        yield from unless(values == [result] * 1024, f"P8: another value at width {width}")
+
+
+def difference_cases():
+    """P9, brought to 64 bits: base 5, differences 0, 2 and 2^64 - 1 by rows; and sums by rows over whole lanes."""
+    numbers = [0] * 1024
+    numbers[128], numbers[256] = 2, 2**64 - 1
+    body = build.packed_bytes(64, numbers)
+    values = block_of(build.differences(64, build.words([5] * 16), body))
+    yield from unless([values[p] for p in (0, 128, 256)] == [5, 7, 6], "P9: the first three rows are not 5, 7, 6")
+    lanes = build.words(range(16))
+    values = block_of(build.differences(1, lanes, b"\xff" * 128))
+    found = [values[p] for p in (0, 64, 16, 1023)]
+    yield from unless(found == [1, 9, 33, 15 + 64], f"kind 2 does not sum by rows: {found} for 1, 9, 33, 79")
+    values = block_of(build.differences(0, lanes, b""))
+    yield from unless(values == [p % 16 for p in range(1024)], "kind 2 at width 0 is not the lane's base")
+
+
+def run_cases():
+    """P10's runs, read back; then an index at the edge of what is allowed, and one past it."""
+    block = build.runs([0, 0, 1] + [2] * 1021, [10, 20, 10])
+    yield from unless(block_of(block) == [10, 10, 20] + [10] * 1021, "P10: kind 3 has other values")
+    data = column_file([build.frame(0, b"", 7), build.with_index(block, 1023, 3)])
+    yield from unless(files.check(data)[:2] == (13, 1), "an index of n is not 13 with its block")
+
+
+def round_trips():
+    """Packing and unpacking at every width, and differences and their sums."""
+    dice = Dice("round trips")
+    for width in range(65):
+        values = list(struct.unpack("<1024Q", dice.bytes(8192)))
+        back = layout.unpack(width, layout.pack(width, values))
+        yield from unless(back == [value % 2**width for value in values], f"width {width}: values come back changed")
+        words = list(struct.unpack(f"<{16 * width}Q", dice.bytes(128 * width)))
+        back = layout.pack(width, layout.unpack(width, words))
+        yield from unless(back == words, f"width {width}: words come back changed")
+    base = [dice.number() for _ in range(16)]
+    yield from unless(layout.undelta(layout.delta(values, base), base) == values, "differences come back changed")
+
+
+def expected_of(steps, way):
+    """The number and the place that the first of these steps gives, from Item 1's text."""
+    place = {sweep.ENTRY_WRONG: sweep.WAYS[way]["entry"], sweep.RUNS_WRONG: sweep.WAYS[way]["block"]}
+    return (int(steps[0].split()[0]), place.get(steps[0], 0)) if steps else (0, 0)
+
+
+def every_set_of_steps():
+    for op in GIVEN:
+        for way in range(len(sweep.WAYS)):
+            yield from ((op, way, steps) for steps in sweep.sets_of_steps(op, way))
+
+
+def order_of_refusals(asked):
+    """Where several steps fail, the first in Item 1's order answers; and without that one, the next."""
+    pairs = set()
+    for op, way, steps in every_set_of_steps():
+        question = sweep.faulty_question(op, steps, way)
+        name = f"call {op}: {question.name}"
+        yield from unless(question in asked, f"{name}: the sweep does not ask this")
+        got = answered(question)[:2]
+        yield from unless(got == expected_of(steps, way), f"{name}: the model gives {got}")
+        rest = answered(sweep.faulty_question(op, steps[1:], way))[:2]
+        yield from unless(rest == expected_of(steps[1:], way), f"{name}: without the first fault it is {rest}")
+        if len(steps) == 2:
+            pairs.add(tuple(int(step.split()[0]) for step in steps))
+    wanted = {(2, 8), (2, 9), (2, 10), (2, 11), (2, 13), (2, 12), (8, 9), (9, 8), (8, 10), (10, 8), (8, 13), (8, 12)}
+    wanted |= {(9, 10), (9, 11), (9, 13), (9, 12), (10, 11), (10, 13), (10, 12), (11, 13), (11, 12), (13, 12)}
+    yield from unless(pairs == wanted, f"the pairs of refusals are {sorted(pairs)}")
+
+
+def what_is_reached(name, questions):
+    """Every number that a call can give is given, and no other; every kind is read; outputs change and stay."""
+    reached = {op: set() for op in GIVEN}
+    kinds = set()
+    for question in questions:
+        outcome = answered(question)
+        reached[question.op].add(outcome.number)
+        if question.op == BLOCK_OUT and not outcome.number:
+            entry = files.entry_at(question.a, question.index)
+            kinds.add((entry.kind, entry.width if entry.kind != RUNS else entry.length))
+            yield from unless(outcome.c != question.c, f"{name}, {question.name}: the output would not change")
+        if outcome.number:
+            yield from unless(outcome.c == question.c, f"{name}, {question.name}: a refusal changes the output")
+            yield from unless(outcome.value == 0, f"{name}, {question.name}: a refusal gives a value")
+    yield from unless(reached == GIVEN, f"{name}: the numbers given are {reached}")
+    edges = {(kind, width) for kind in (PACKED, FRAME, DIFFERENCES) for width in sweep.EDGE_WIDTHS}
+    edges |= {(RUNS, 2048 + 8), (RUNS, 2048 + 8 * 1024)}
+    yield from unless(edges <= kinds, f"{name}: no block out of kind and width {sorted(edges - kinds)}")
+
+
+def spoiled(questions):
+    """The cases with one part of what is expected changed, each part in turn; a replay has to find every one."""
+    for question in questions:
+        outcome = answered(question)
+        yield question, outcome._replace(number=outcome.number + 1)
+        yield question, outcome._replace(place=outcome.place + 1)
+        if question.op == ROW_LOOKUP:
+            yield question, outcome._replace(value=(outcome.value + 2**63) % 2**64)
+        for at in sorted({0, len(outcome.c) - 1} if outcome.c else ()):
+            c = bytearray(outcome.c)
+            c[at] ^= 128
+            yield question, outcome._replace(c=bytes(c))
+
+
+def streams(questions):
+    """A stream is read as it was written, and a replay finds every wrong expectation and no other."""
+    whole = b"".join(record(question, answered(question)) for question in questions)
+    back = list(cases(io.BytesIO(whole)))
+    same = [(q._replace(name=""), answered(q)) for q in questions] == back
+    yield from unless(same, "a stream is not read as it was written")
+    said = replay(io.BytesIO(whole))
+    yield from unless(said == [f"cases {len(back)}", "differ 0"], f"the sample's replay says {said}")
+    wrong = [record(*case) for case in spoiled(questions)]
+    said = replay(io.BytesIO(b"".join(wrong)))
+    all_differ = [f"cases {len(wrong)}", f"differ {len(wrong)}"]
+    yield from unless(said[:2] == all_differ, f"the replay of spoiled cases says {said}")
+    said = replay(io.BytesIO(whole[:-1]))
+    yield from unless(said == [f"bad stream at {len(back) - 1}"], f"the replay of a cut stream says {said}")
+    head = struct.pack("<BBHB3xQQQQ4I", ROW_LOOKUP, 64, 0, 0, 0, 7, 0, 1023, len(sweep.SEVENS), 0, 0, 0)
+    question = sweep.ask_row("the sevens", sweep.SEVENS, 1023)
+    yield from unless(record(question, Outcome(0, 0, b"", 7)) == head + sweep.SEVENS, "a record has another form")
+    yield from unless(len(whole) < 1_000_000, f"the sample has {len(whole)} bytes, and is to be below a megabyte")
+
+
+def failures():
+    """All that is not so."""
+    swept = list(sweep.sweep(1))
+    sample = list(sweep.sample())
+    yield from worked_files()
+    yield from packed_cases()
+    yield from frame_cases()
+    yield from difference_cases()
+    yield from run_cases()
+    yield from round_trips()
+    yield from order_of_refusals(set(swept))
+    yield from what_is_reached("sweep", swept)
+    yield from what_is_reached("sample", sample)
+    yield from what_is_reached("mixed", list(mixed.mixed(1, 600)))
+    yield from streams(sample)

@@ -1,0 +1,98 @@
+"""Shows a column file to a person: its contents as far as they are there, and the answer with what is wrong."""
+from . import files
+
+
+def plural(n, word):
+    return f"{n} {word}" if n == 1 else f"{n} {word}s"
+
+
+def head_lines(data):
+    if len(data) < files.HEAD.size:
+        yield f"edition and number of blocks: cut short, the bytes are {data.hex(' ') or 'none'}"
+        return
+    count = files.count_of(data)
+    yield f"edition {files.edition_of(data)}, {plural(count, 'block')}, {plural(1024 * count, 'row')}"
+
+
+def entry_words(entry):
+    kind = files.KINDS[entry.kind] if entry.kind <= files.RUNS else "no such kind"
+    zero = f", zero field {entry.zero}" if entry.zero else ""
+    n = f" ({plural(files.run_values(entry), 'value')})" if entry.kind == files.RUNS and entry.length > 2048 else ""
+    fields = f"width {entry.width}{zero}, length {entry.length}{n}, reference {entry.reference}"
+    return f"kind {entry.kind} ({kind}), {fields}"
+
+
+def body_words(data, start, end):
+    """Where a body stands by the lengths in the entries, and how much of it is there."""
+    if start == end:
+        return "no body"
+    there = "" if end <= len(data) else ", cut short" if start < len(data) else ", not there"
+    return f"body from byte {start} to {end}{there}"
+
+
+def entry_lines(data):
+    """A line for each entry that is there, one more where something is wrong in it, and one for a cut entry."""
+    if len(data) < files.HEAD.size:
+        return
+    count = files.count_of(data)
+    whole, rest = divmod(len(data) - files.HEAD.size, files.ENTRY.size)
+    start = files.contents_size(data)
+    for i in range(min(count, whole)):
+        entry = files.entry_at(data, i)
+        yield f"entry {i}: {entry_words(entry)}; {body_words(data, start, start + entry.length)}"
+        fault = files.entry_fault(entry)
+        if fault:
+            yield f"  WRONG: {fault}"
+        start += entry.length
+    if whole < count:
+        yield f"entry {whole} of {count}: cut short, {rest} of its {files.ENTRY.size} bytes are there"
+
+
+def value_lines(data):
+    """For each block of an accepted file its smallest and largest value and its first few."""
+    for i in range(files.count_of(data)):
+        values = files.values_of(data, i)
+        first = " ".join(map(str, values[:4]))
+        yield f"block {i}: smallest {min(values)}, largest {max(values)}, first {first} ..."
+
+
+def answer_line(answer):
+    return f"answer: number {answer.number}, place {answer.place}: {answer.why}"
+
+
+def lines(data):
+    yield plural(len(data), "byte")
+    yield from head_lines(data)
+    yield from entry_lines(data)
+    answer = files.check(data)
+    if not answer.number:
+        yield from value_lines(data)
+    yield answer_line(answer)
+
+
+def block_lines(data, block):
+    """What block out gives: sixteen values to a line, with the file row of the first."""
+    answer, values = files.block_out(data, block, 1024)
+    if values:
+        for p in range(0, 1024, 16):
+            yield f"row {1024 * block + p}: {' '.join(map(str, values[p : p + 16]))}"
+    yield answer_line(answer)
+
+
+def row_lines(data, row):
+    answer, value = files.row_lookup(data, row)
+    if value is not None:
+        yield f"row {row}: {value}"
+    yield answer_line(answer)
+
+
+def case_lines(i, question, expected, answered):
+    """A case of a stream, what is expected of it, what the model gives, and its file."""
+    yield f"case {i}: call {question.op}, index {question.index}, output of {plural(len(question.c) // 8, 'place')}"
+    yield f"expected: number {expected.number}, place {expected.place}, value {expected.value}"
+    if answered == expected:
+        yield "the model gives the same"
+    else:
+        same = "as expected" if answered.c == expected.c else "another"
+        yield f"the model: number {answered.number}, place {answered.place}, value {answered.value}, output {same}"
+    yield from lines(question.a)
