@@ -1,7 +1,7 @@
 -- What holds of contents that are accepted, and that nothing else is accepted.
 -- Assumes nothing.
 use mathlib.Core.Bool.{Bool, true, false}
-use mathlib.Core.List.{List, [], _∷_}
+use mathlib.Core.List.{List, [], _∷_, _++_}
 use mathlib.Core.Logic.{_↔_}
 use mathlib.Core.Path.{_≡_, refl, sym, ap₂, _∙_}
 use Prim.Native.Nat.{ℕ, _≤_, _<_}
@@ -15,7 +15,7 @@ use Rattle.contents.specs.declared.FileAnswer.the-variants.{Done}
 use Rattle.contents.specs.Answers.{FileTest, passes, fileAnswer}
 use Rattle.contents.specs.Contents.{edition, count, contentsSize, entryOf, isLaidOut, badEntry, bodyStart, contentsTests}
 use Rattle.contents.specs.First.{firstBad}
-use Rattle.contents.proofs.Answers.{passed, stopped, none-left, refusal-not-done}
+use Rattle.contents.proofs.Answers.{passed, stopped, none-left, refusal-not-done, in-front-done}
 use Rattle.contents.proofs.Checks.{entries-there, entries-done}
 use Rattle.contents.proofs.First.{first-only, first-before}
 
@@ -26,6 +26,17 @@ done-first x xs e = go (passes x) refl
     go : (b : Bool) → passes x ≡ b → (passes x ≡ true) × (fileAnswer xs ≡ Done)
     go true p = (p, sym (passed x xs p) ∙ e)
     go false p = absurd (refusal-not-done x (sym (stopped x xs p) ∙ e))
+
+-- A call that is done is done with the tests in front and with those behind them, and the other way round.
+pub done-front : (xs ys : List FileTest) → fileAnswer (xs ++ ys) ≡ Done → (fileAnswer xs ≡ Done) × (fileAnswer ys ≡ Done)
+done-front [] ys e = (none-left, e)
+done-front (x ∷ xs) ys e =
+    let first = done-first x (xs ++ ys) e in
+    let rest = done-front xs ys (first .1) in
+    (passed x xs (first .0) ∙ rest .0, rest .1)
+
+pub done-both : (xs ys : List FileTest) → fileAnswer xs ≡ Done → fileAnswer ys ≡ Done → fileAnswer (xs ++ ys) ≡ Done
+done-both xs ys e f = in-front-done xs ys e ∙ f
 
 -- The contents in l are those of a file of `size` bytes.
 pub record Whole (l : List ℕ) (size : ℕ) : Type 0 where

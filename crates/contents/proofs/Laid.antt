@@ -1,15 +1,17 @@
 -- What an entry that is as laid out says of itself, kind by kind.
 -- Assumes nothing.
 use mathlib.Core.Bool.{Bool, true, false}
-use mathlib.Core.Path.{_≡_, refl, sym, _∙_}
+use mathlib.Core.Logic.{_↔_, _⊎_, inl, inr, ⊎-elim}
+use mathlib.Core.Path.{_≡_, refl, sym, ap₂, _∙_}
 use Prim.Native.Nat.{ℕ, _+_, _*_, _-_, _/_, _%_, _≤_, _<_}
 use native.Mathlib.Omega.{arith}
 use lib.Dec.{eqb, leb}
-use borrow.Author.Tests.{eq-eqb, leb-true, eqb-true, eqb-false}
+use borrow.Author.Tests.{eq-eqb, le-leb, leb-true, eqb-true, eqb-false}
 use Rattle.places.specs.Pick.{pick, both}
 use Rattle.places.proofs.Tests.{both-true, false-true}
 use Rattle.contents.specs.declared.Entry.{Entry}
 use Rattle.contents.specs.Contents.{isPacked, isRuns, isOfKind, isLaidOut}
+use Rattle.contents.specs.Plain.{RunLength, LaidOut}
 
 module _ (e : Entry) (good : isLaidOut e ≡ true) where
   of-kind : isOfKind e ≡ true
@@ -65,3 +67,64 @@ module _ (e : Entry) (good : isLaidOut e ≡ true) where
       go false false true d p q r s h = omega (arith, eqb-true (e .kind) 2 r)
       go false false false true p q r s h = omega (arith, eqb-true (e .kind) 3 s)
       go false false false false p q r s h = absurd (false-true h)
+
+-- ---- the tests say what the document says
+
+-- a test and what it stands for
+eqb-is : (a b : ℕ) → (eqb a b ≡ true) ↔ (a ≡ b)
+eqb-is a b = (eqb-true a b, eq-eqb a b)
+
+leb-is : (a b : ℕ) → (leb a b ≡ true) ↔ (a ≤ b)
+leb-is a b = (leb-true a b, le-leb a b)
+
+both-is : {P Q : Type 0} (a b : Bool) → (a ≡ true) ↔ P → (b ≡ true) ↔ Q → (both a b ≡ true) ↔ (P × Q)
+both-is a b f g = (
+  (λ h. let t = both-true a b h in (f .0 (t .0), g .0 (t .1))),
+  (λ h. ap₂ both (f .1 (h .0)) (g .1 (h .1))),
+)
+
+-- one of two by a test, the other way where it fails
+pick-is : {P Q : Type 0} (k n : ℕ) (a b : Bool) → (a ≡ true) ↔ P → (b ≡ true) ↔ Q → ((k ≡ n) → Q → ⊥)
+    → (pick (eqb k n) a b ≡ true) ↔ (((k ≡ n) × P) ⊎ Q)
+pick-is {P} {Q} k n a b f g apart = go (eqb k n) refl
+  where
+    go : (t : Bool) → eqb k n ≡ t → (pick t a b ≡ true) ↔ (((k ≡ n) × P) ⊎ Q)
+    go true e = (
+      (λ h. inl (eqb-true k n e, f .0 h)),
+      (⊎-elim (λ h. f .1 (h .1)) (λ q. absurd (apart (eqb-true k n e) q))),
+    )
+    go false e = (
+      (λ h. inr (g .0 h)),
+      (⊎-elim (λ h. absurd (eqb-false k n e (h .0))) (λ q. g .1 q)),
+    )
+
+runs-length : (bytes : ℕ) → (both (leb 2056 bytes) (both (leb bytes 10240) (eqb (bytes % 8) 0)) ≡ true) ↔ RunLength bytes
+runs-length bytes =
+    let plain = both-is _ _ (leb-is 2056 bytes) (both-is _ _ (leb-is bytes 10240) (eqb-is (bytes % 8) 0)) in (
+      (λ h. let q = plain .0 h in record { n = (bytes - 2048) / 8; low = omega arith; high = omega arith; is = omega arith }),
+      (λ r. plain .1 (omega (arith, r .low, r .is), (omega (arith, r .high, r .is), omega (arith, r .is)))),
+    )
+
+last-is : {P : Type 0} (k n : ℕ) (a : Bool) → (a ≡ true) ↔ P → (pick (eqb k n) a false ≡ true) ↔ ((k ≡ n) × P)
+last-is {P} k n a f = go (eqb k n) refl
+  where
+    go : (t : Bool) → eqb k n ≡ t → (pick t a false ≡ true) ↔ ((k ≡ n) × P)
+    go true e = ((λ h. (eqb-true k n e, f .0 h)), (λ h. f .1 (h .1)))
+    go false e = ((λ h. absurd (false-true h)), (λ h. absurd (eqb-false k n e (h .0))))
+
+packed-is : (more w bytes asked : ℕ) → more + 128 * w ≡ asked
+    → (both (leb w 64) (eqb bytes (more + 128 * w)) ≡ true) ↔ ((w ≤ 64) × (bytes ≡ asked))
+packed-is more w bytes asked e = rw e (both-is _ _ (leb-is w 64) (eqb-is bytes asked))
+
+-- The tests of an entry pass exactly when it is as laid out.
+pub laid-plain : (e : Entry) → (isLaidOut e ≡ true) ↔ LaidOut e
+unfolding isLaidOut isOfKind
+laid-plain e =
+    both-is _ _ (eqb-is (e .zero) 0)
+    (pick-is (e .kind) 0 _ _ (both-is _ _ (eqb-is (e .reference) 0) (packed-is 0 (e .width) (e .length) (128 * e .width) (omega arith)))
+    (pick-is (e .kind) 1 _ _ (packed-is 0 (e .width) (e .length) (128 * e .width) (omega arith))
+    (pick-is (e .kind) 2 _ _ (both-is _ _ (eqb-is (e .reference) 0) (packed-is 128 (e .width) (e .length) (128 + 128 * e .width) refl))
+    (last-is (e .kind) 3 _ (both-is _ _ (eqb-is (e .reference) 0) (both-is _ _ (eqb-is (e .width) 0) (runs-length (e .length)))))
+    (λ k q. omega (arith, k, q .0)))
+    (λ k q. ⊎-elim (λ r. omega (arith, k, r .0)) (λ r. omega (arith, k, r .0)) q))
+    (λ k q. ⊎-elim (λ r. omega (arith, k, r .0)) (⊎-elim (λ r. omega (arith, k, r .0)) (λ r. omega (arith, k, r .0))) q))

@@ -1,3 +1,4 @@
 pub mod Answers
 pub mod Contents
 pub mod First
+pub mod Plain

@@ -1,0 +1,53 @@
+-- The column file (document 02, Item 1): where a body stands, the blocks and the rows of a file, and what the check, one block out and the
+-- value at a file row answer and leave. `l` is the file, a list of bytes.
+-- Assumes nothing.
+use mathlib.Core.List.{List, [], _∷_, _++_}
+use Prim.Native.Nat.{ℕ, _*_, _/_, _%_}
+use lib.ListN.{length, getD, take, drop}
+use Rattle.places.specs.Pick.{pick}
+use Rattle.places.specs.Tab.{tab}
+use Rattle.contents.specs.declared.FileAnswer.{FileAnswer}
+use Rattle.contents.specs.Answers.{FileTest, a-block, a-number, good-runs, fileAnswer, isDone, left}
+use Rattle.contents.specs.Contents.{count, entryOf, bodyStart, contentsTests}
+use Rattle.contents.specs.First.{firstBad}
+use Rattle.bodies.specs.Bodies.{blockOf, hasGoodRuns}
+
+-- Body i has as many bytes as its entry says.
+unfoldable pub bodyOf : (l : List ℕ) (i : ℕ) → List ℕ
+bodyOf l i = take (entryOf l i .length) (drop (bodyStart l i) l)
+
+-- Block i is what its entry and its body stand for.
+unfoldable pub blockIn : (l : List ℕ) (i : ℕ) → List ℕ
+blockIn l i = blockOf (entryOf l i) (bodyOf l i)
+
+-- A file has 1,024 rows for each block,
+abbrev pub rowCount : List ℕ → ℕ
+rowCount l = 1024 * count l
+
+-- and row p is place p mod 1,024 of block p / 1,024.
+unfoldable pub rowAt : (l : List ℕ) (p : ℕ) → ℕ
+rowAt l p = getD (blockIn l (p / 1024)) (p % 1024) 0
+
+-- These are the rows of a file.
+unfoldable pub rowsOf : (l : List ℕ) → List ℕ
+rowsOf l = tab (rowCount l) (rowAt l)
+
+-- This is the lowest block that has a run index out of range, and the count where there is none.
+unfoldable pub badRuns : List ℕ → ℕ
+badRuns l = firstBad (count l) (λ i. hasGoodRuns (entryOf l i) (bodyOf l i))
+
+-- The tests of a whole file are, in Item 1's order, those of its contents against its length, and then that of the run indices.
+abbrev pub fileTests : (l : List ℕ) → List FileTest
+fileTests l = contentsTests l (length l) ++ (good-runs (badRuns l) (count l) ∷ [])
+
+-- One block out tests its output first, and the number of the block last.
+abbrev pub blockTests : (l : List ℕ) (b : ℕ) (output : List ℕ) → List FileTest
+blockTests l b output = a-block output ∷ (fileTests l ++ (a-number b (count l) ∷ []))
+
+-- One block out leaves this in its output.
+unfoldable pub blockLeaves : (l : List ℕ) (b : ℕ) (output : List ℕ) → List ℕ
+blockLeaves l b output = left (fileAnswer (blockTests l b output)) (blockIn l b) output
+
+-- The lookup of a row tests the number of the row last.
+abbrev pub rowTests : (l : List ℕ) (p : ℕ) → List FileTest
+rowTests l p = fileTests l ++ (a-number p (rowCount l) ∷ [])
