@@ -1,0 +1,77 @@
+-- When each number of Item 1 is given to a file, said a second time: in plain arithmetic, without a test or a search, in the order of the
+-- document. It guards the chain of tests in Files: that a file gets an answer exactly when it has the reason for it here is a theorem.
+-- Assumes nothing.
+use mathlib.Core.List.{List}
+use mathlib.Core.Logic.{_⊎_, _≢_}
+use mathlib.Core.Path.{_≡_}
+use Prim.Native.Nat.{ℕ, _*_, _-_, _/_, _≤_, _<_}
+use lib.ListN.{length}
+use Rattle.little.specs.Little.{little}
+use Rattle.contents.specs.declared.Entry.{Entry}
+use Rattle.contents.specs.declared.FileAnswer.{FileAnswer}
+use Rattle.contents.specs.declared.FileAnswer.the-variants.{Done, Block, Cut, Edition, Entry as BadEntry, Over, Beyond, Runs}
+use Rattle.contents.specs.Contents.{edition, count, contentsSize, entryOf, bodyStart}
+use Rattle.contents.specs.Plain.{LaidOut}
+use Rattle.files.specs.Files.{bodyOf, rowCount}
+
+-- In a body of runs every run index is below the number of run values.
+abbrev pub GoodRuns : (e : Entry) (body : List ℕ) → Type 0
+GoodRuns e body = (e .kind ≡ 3) → (i : ℕ) → i < 1024 → little body (i * 2) 2 < (e .length - 2048) / 8
+
+-- The edition is 1, there are at most 256 blocks, and all entries are there.
+pub record Headed (l : List ℕ) : Type 0 where
+  pub head : 4 ≤ length l
+  pub first : edition l ≡ 1
+  pub few : count l ≤ 256
+  pub room : contentsSize (count l) ≤ length l
+
+-- The entries below n are as laid out.
+abbrev pub LaidTo : (l : List ℕ) (n : ℕ) → Type 0
+LaidTo l n = (i : ℕ) → i < n → LaidOut (entryOf l i)
+
+-- The blocks below n have run indices in range.
+abbrev pub GoodTo : (l : List ℕ) (n : ℕ) → Type 0
+GoodTo l n = (i : ℕ) → i < n → GoodRuns (entryOf l i) (bodyOf l i)
+
+-- The contents are right, and the bodies end where the file does.
+pub record Right (l : List ℕ) : Type 0 where
+  pub headed : Headed l
+  pub laid : LaidTo l (count l)
+  pub end : bodyStart l (count l) ≡ length l
+
+-- A file has this reason for its answer.
+pub data Reason (l : List ℕ) : FileAnswer → Type 0 where
+  -- 8: there are fewer than 4 bytes.
+  short-head : length l < 4 → Reason l Cut
+  -- 9: the edition is not 1, or there are more than 256 blocks.
+  other-edition : 4 ≤ length l → (edition l ≢ 1) ⊎ (256 < count l) → Reason l Edition
+  -- 8: the entries are cut short.
+  short-entries : 4 ≤ length l → edition l ≡ 1 → count l ≤ 256 → length l < contentsSize (count l) → Reason l Cut
+  -- 10: entry p is the lowest that is not as laid out.
+  bad-entry : (p : ℕ) → Headed l → p < count l → (LaidOut (entryOf l p) → ⊥) → LaidTo l p → Reason l (BadEntry p)
+  -- 8: the bodies are cut short.
+  short-bodies : Headed l → LaidTo l (count l) → length l < bodyStart l (count l) → Reason l Cut
+  -- 11: bytes are left over.
+  left-over : Headed l → LaidTo l (count l) → bodyStart l (count l) < length l → Reason l Over
+  -- 13: block p is the lowest with a run index out of range.
+  bad-runs : (p : ℕ) → Right l → p < count l → (GoodRuns (entryOf l p) (bodyOf l p) → ⊥) → GoodTo l p → Reason l (Runs p)
+  -- 0: nothing of that.
+  none : Right l → GoodTo l (count l) → Reason l Done
+
+-- One block out has this reason for its answer: the output comes first, and a block number that is too high last.
+pub data BlockReason (l : List ℕ) (b : ℕ) (output : List ℕ) : FileAnswer → Type 0 where
+  -- 2: the output is not 1,024 long.
+  bad-output : length output ≢ 1024 → BlockReason l b output Block
+  -- The file has a reason of its own.
+  of-file : (a : FileAnswer) → length output ≡ 1024 → a ≢ Done → Reason l a → BlockReason l b output a
+  -- 12: there is no block with this number.
+  no-block : length output ≡ 1024 → Reason l Done → count l ≤ b → BlockReason l b output Beyond
+  -- 0: nothing of that.
+  block-there : length output ≡ 1024 → Reason l Done → b < count l → BlockReason l b output Done
+
+-- The lookup of a row has this reason for its answer.
+pub data RowReason (l : List ℕ) (p : ℕ) : FileAnswer → Type 0 where
+  of-file : (a : FileAnswer) → a ≢ Done → Reason l a → RowReason l p a
+  -- 12: there is no row with this number.
+  no-row : Reason l Done → rowCount l ≤ p → RowReason l p Beyond
+  row-there : Reason l Done → p < rowCount l → RowReason l p Done
