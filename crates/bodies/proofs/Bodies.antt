@@ -7,8 +7,8 @@ use Prim.Native.Nat.{ℕ, _+_, _*_, _-_, _≤_, _<_}
 use native.Mathlib.Decide.{decLe}
 use native.Mathlib.Omega.{arith}
 use lib.Dec.{eqb, leb, ltb}
-use lib.ListN.{length, take, drop, length-drop}
-use lib.Seq.{take-all}
+use lib.ListN.{length, take, drop, replicate, length-drop}
+use lib.Seq.{take-all, length-take-le}
 use borrow.Author.Tests.{le-leb, lt-leb, lt-ltb, le-ltb, eq-eqb, ne-eqb}
 use Rattle.places.specs.declared.Answer.the-variants.{Done as Taken, Dictionary}
 use Rattle.places.specs.Answers.{isDone, unless}
@@ -35,6 +35,7 @@ use Rattle.contents.specs.declared.FileAnswer.the-variants.{Done, Block, Cut, E
 use Rattle.contents.specs.Answers.{enough, an-end, good-runs, fileAnswer, numberOf, left}
 use Rattle.contents.specs.Contents.{isLaidOut}
 use Rattle.contents.proofs.Answers.{passed, stopped, none-left, left-refused}
+use Rattle.contents.proofs.Laid.{laid-packed, laid-frame}
 use Rattle.bodies.specs.Bodies.{wordsFrom, packedFrom, runIndices, runCount, blockOf, indexed, hasGoodRuns, bodyTests, blockTests, blockLeaves}
 
 -- As many numbers are read as are asked for.
@@ -53,6 +54,18 @@ pub words-read : (body words : List ℕ) (at n : ℕ) → length words ≡ n →
 words-read body words at n l h =
     let rest : take (length body - at) (drop at body) ≡ drop at body = take-all (length body - at) (drop at body) (omega (arith, length-drop at body)) in
     ap (λ part. readLeaves 8 part words) rest ∙ numbers-read 8 (drop at body) words n l (omega (arith, length-drop at body))
+
+-- The first n places of an array of 1,024 zeros are n places.
+pub lent : (n : ℕ) → n ≤ 1024 → length (take n (replicate {A = ℕ} 1024 0)) ≡ n
+lent n h = length-take-le n (replicate 1024 0) h
+
+-- An entry of kind 0 or 1 that is as laid out says this of its width and its length.
+pub laid-plain : (e : Entry) → isLaidOut e ≡ true → e .kind < 2 → (e .width ≤ 64) × (e .length ≡ 128 * e .width)
+laid-plain e good k =
+    elim (decLe (e .kind) 0) [
+      | yes h ↦ laid-packed e good (omega arith)
+      | no h ↦ laid-frame e good (omega arith)
+    ]
 
 -- The block by its kind.
 module _ (e : Entry) (body : List ℕ) where
@@ -111,33 +124,51 @@ indexed-high n body =
     ]
 
 -- Decode takes the run values and the run indices of a body exactly when every run index is below the number of the values.
-isDone-only : (b : Bool) (p : ℕ) → isDone (unless b (Dictionary p) Taken) ≡ b
-isDone-only true p = refl
-isDone-only false p = refl
+done-only : (b : Bool) (p : ℕ) → isDone (unless b (Dictionary p) Taken) ≡ b
+done-only true p = refl
+done-only false p = refl
 
-module _ (n : ℕ) (body output : List ℕ) (o : length output ≡ 1024) where
-  pub decode-tests : isDone (answerFor (decodeTakes (wordsFrom body 2048 n) (runIndices body) output)) ≡ indexed n body
+module _ (body indices values output : List ℕ) (b : length body ≡ 2048 + 8 * length values) (i : length indices ≡ 1024) (o : length output ≡ 1024) where
+  values-read : readLeaves 8 (take (length body - 2048) (drop 2048 body)) values ≡ wordsFrom body 2048 (length values)
+  values-read = words-read body values 2048 (length values) refl (omega arith)
+
+  indices-read : readLeaves 2 body indices ≡ runIndices body
+  indices-read = numbers-read 2 body indices 1024 i (omega arith)
+
+  indices-taken : isDone (answerFor (decodeTakes (wordsFrom body 2048 (length values)) (runIndices body) output)) ≡ indexed (length values) body
   unfolding answerFor
-  decode-tests =
-      let values = wordsFrom body 2048 n in
-      let indices = runIndices body in
-      simp (eq-eqb (length indices) 1024 (length-numbers 2 body 1024), eq-eqb (length output) 1024 o)
-      (isDone-only (eqb (firstBeyond (length values) indices) (length indices)) (firstBeyond (length values) indices)
-      ∙ ap₂ (λ k m. eqb (firstBeyond k indices) m) (length-numbers 8 (drop 2048 body) n) (length-numbers 2 body 1024))
+  indices-taken =
+      let v = wordsFrom body 2048 (length values) in
+      let x = runIndices body in
+      simp (eq-eqb (length x) 1024 (length-numbers 2 body 1024), eq-eqb (length output) 1024 o)
+      (done-only (eqb (firstBeyond (length v) x) (length x)) (firstBeyond (length v) x)
+      ∙ ap₂ (λ k m. eqb (firstBeyond k x) m) (length-numbers 8 (drop 2048 body) (length values)) (length-numbers 2 body 1024))
 
-  pub decode-left : decodeLeaves (wordsFrom body 2048 n) (runIndices body) output
-      ≡ pick (indexed n body) (decodeOf (wordsFrom body 2048 n) (runIndices body)) output
+  pub runs-taken : isDone (answerFor (decodeTakes (readLeaves 8 (take (length body - 2048) (drop 2048 body)) values) (readLeaves 2 body indices) output))
+      ≡ indexed (length values) body
+  runs-taken = ap₂ (λ v x. isDone (answerFor (decodeTakes v x output))) values-read indices-read ∙ indices-taken
+
+  pub runs-left : decodeLeaves (readLeaves 8 (take (length body - 2048) (drop 2048 body)) values) (readLeaves 2 body indices) output
+      ≡ pick (indexed (length values) body) (decodeOf (wordsFrom body 2048 (length values)) (runIndices body)) output
   unfolding decodeLeaves
-  decode-left = ap (λ b. pick b (decodeOf (wordsFrom body 2048 n) (runIndices body)) output) decode-tests
+  runs-left =
+      ap₂ (λ v x. decodeLeaves v x output) values-read indices-read
+      ∙ ap (λ d. pick d (decodeOf (wordsFrom body 2048 (length values)) (runIndices body)) output) indices-taken
 
 -- The last test, of the run indices, by what they are: what is answered, and what is left in an output.
-pub runs-answer : (b : Bool) → fileAnswer (good-runs (pick b 1 0) 1 ∷ []) ≡ pick b Done (Runs 0)
+runs-answer : (b : Bool) → fileAnswer (good-runs (pick b 1 0) 1 ∷ []) ≡ pick b Done (Runs 0)
 runs-answer true = passed (good-runs 1 1) [] refl ∙ none-left
 runs-answer false = stopped (good-runs 0 1) [] refl
 
-pub runs-left : (b : Bool) (new old : List ℕ) → left (fileAnswer (good-runs (pick b 1 0) 1 ∷ [])) new old ≡ pick b new old
-runs-left true new old = ap (λ a. left a new old) (runs-answer true)
-runs-left false new old = ap (λ a. left a new old) (runs-answer false)
+pub runs-done : {b : Bool} → b ≡ true → Done ≡ fileAnswer (good-runs (pick b 1 0) 1 ∷ [])
+runs-done {b} h = sym (runs-answer b ∙ ap (λ x. pick x Done (Runs 0)) h)
+
+pub runs-bad : {b : Bool} → b ≡ false → Runs 0 ≡ fileAnswer (good-runs (pick b 1 0) 1 ∷ [])
+runs-bad {b} h = sym (runs-answer b ∙ ap (λ x. pick x Done (Runs 0)) h)
+
+answer-left : (b : Bool) (new old : List ℕ) → left (fileAnswer (good-runs (pick b 1 0) 1 ∷ [])) new old ≡ pick b new old
+answer-left true new old = ap (λ a. left a new old) (runs-answer true)
+answer-left false new old = ap (λ a. left a new old) (runs-answer false)
 
 -- The tests of a body, one by one.
 module _ (e : Entry) (body : List ℕ) where
@@ -145,6 +176,11 @@ module _ (e : Entry) (body : List ℕ) where
   pub other-runs : (e .kind ≡ 3 → ⊥) → hasGoodRuns e body ≡ true
   unfolding hasGoodRuns
   other-runs k = simp (ne-eqb (e .kind) 3 k)
+
+  -- so it is done when its block is laid down
+  pub other-done : (new output : List ℕ) → (e .kind ≡ 3 → ⊥) → new ≡ blockOf e body
+      → (Done ≡ fileAnswer (good-runs (pick (hasGoodRuns e body) 1 0) 1 ∷ [])) × (new ≡ pick (hasGoodRuns e body) (blockOf e body) output)
+  other-done new output k h = (runs-done (other-runs k), h ∙ sym (ap (λ b. pick b (blockOf e body) output) (other-runs k)))
 
   pub runs-runs : e .kind ≡ 3 → hasGoodRuns e body ≡ indexed (runCount e) body
   unfolding hasGoodRuns
@@ -173,9 +209,6 @@ module _ (e : Entry) (body : List ℕ) where
         ∙ passed _ _ (le-leb (e .length) (length body) (omega arith))
         ∙ passed _ _ (le-leb (length body) (e .length) (omega arith))
 
-    pub body-right : length body ≡ e .length → fileAnswer (bodyTests e body) ≡ pick (hasGoodRuns e body) Done (Runs 0)
-    body-right h = body-whole h ∙ runs-answer (hasGoodRuns e body)
-
   -- With an output, its length is tested first; after a refusal it holds what it held.
   module _ (output : List ℕ) where
     pub bad-output : (length output ≡ 1024 → ⊥) → fileAnswer (blockTests e body output) ≡ Block
@@ -196,4 +229,4 @@ module _ (e : Entry) (body : List ℕ) where
 
       pub block-left : blockLeaves e body output ≡ pick (hasGoodRuns e body) (blockOf e body) output
       unfolding blockLeaves
-      block-left = ap (λ a. left a (blockOf e body) output) block-answer ∙ runs-left (hasGoodRuns e body) (blockOf e body) output
+      block-left = ap (λ a. left a (blockOf e body) output) block-answer ∙ answer-left (hasGoodRuns e body) (blockOf e body) output
