@@ -15,11 +15,10 @@ ghost use mathlib.Core.Bool.{true};
 ghost use mathlib.Core.List.{[], _∷_};
 ghost use Prim.Native.Nat.{_+_, _*_, _≤_, _<_};
 ghost use lib.ListN.{length};
+ghost use Rattle.places.specs.Answers.{isDone};
 ghost use Rattle.places.specs.Pick.{pick};
 ghost use Rattle.places.specs.Sizes.{t64, lanes};
-ghost use Rattle.places.specs.Takes.{answerFor};
 ghost use Rattle.deltas.specs.Deltas.{undeltaPackOf};
-ghost use Rattle.runs.specs.Calls.{decodeTakes, decodeLeaves};
 ghost use Rattle.runs.specs.Highest.{highestOf};
 ghost use Rattle.runs.specs.Runs.{decodeOf};
 ghost use Rattle.contents.specs.Answers.{good-runs, fileAnswer};
@@ -181,21 +180,32 @@ fn runs_out(n: usize, body: &[u8], output: &mut [u64]) -> FileAnswer
 {
     let mut indices = [0u16; 1024];
     let mut values = [0u64; 1024];
-    let answer = runs_through(body, &mut indices, &mut values[..n], output);
+    runs_through(body, &mut indices, &mut values[..n], output)
+}
+
+fn runs_through(
+    body: &[u8],
+    indices: &mut [u16],
+    values: &mut [u64],
+    output: &mut [u64],
+) -> FileAnswer
+    requires { ⌜ length (now body) ≡ 2048 + 8 * length (now values) ⌝ }
+    requires { ⌜ length (now indices) ≡ 1024 ⌝ }
+    requires { ⌜ length (now output) ≡ 1024 ⌝ }
+    ensures { λ r. ⌜ r ≡ fileAnswer (good-runs (pick (indexed (length (now (values .entry))) (now (body .entry))) 1 0) 1 ∷ []) ⌝ }
+    ensures { λ _. ⌜ now (output .exit) ≡ pick (indexed (length (now (values .entry))) (now (body .entry))) (decodeOf (wordsFrom (now (body .entry)) 2048 (length (now (values .entry)))) (runIndices (now (body .entry)))) (now (output .entry)) ⌝ }
+{
+    read_pairs(body, indices);
+    read_words(&body[2048..], values);
+    runs_answer(decode(values, indices, output))
+}
+
+// What decode's answer says of the run indices: its lengths are right, so a refusal is of an index.
+fn runs_answer(answer: Answer) -> FileAnswer
+    ensures { λ r. ⌜ r ≡ fileAnswer (good-runs (pick (isDone answer) 1 0) 1 ∷ []) ⌝ }
+{
     if answer.number() == 0 {
         return FileAnswer::Done;
     }
     FileAnswer::Runs(0)
-}
-
-fn runs_through(body: &[u8], indices: &mut [u16], values: &mut [u64], output: &mut [u64]) -> Answer
-    requires { ⌜ length (now body) ≡ 2048 + 8 * length (now values) ⌝ }
-    requires { ⌜ length (now indices) ≡ 1024 ⌝ }
-    requires { ⌜ length (now output) ≡ 1024 ⌝ }
-    ensures { λ r. ⌜ r ≡ answerFor (decodeTakes (wordsFrom (now (body .entry)) 2048 (length (now (values .entry)))) (runIndices (now (body .entry))) (now (output .entry))) ⌝ }
-    ensures { λ _. ⌜ now (output .exit) ≡ decodeLeaves (wordsFrom (now (body .entry)) 2048 (length (now (values .entry)))) (runIndices (now (body .entry))) (now (output .entry)) ⌝ }
-{
-    read_pairs(body, indices);
-    read_words(&body[2048..], values);
-    decode(values, indices, output)
 }

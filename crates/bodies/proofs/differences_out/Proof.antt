@@ -1,6 +1,10 @@
--- `bodies::differences_out` meets its contract.
+-- `bodies::differences_out` meets its contract: the part of the array that is lent is as long as the packed words.
 -- Assumes nothing.
+use mathlib.Core.Path.{_≡_, sym, _∙_}
+use Prim.Native.Nat.{_*_}
+use native.Mathlib.Omega.{arith}
 use borrow.Author.Needs.{needs}
+use Rattle.bodies.proofs.Bodies.{lent}
 use Rattle.bodies.proofs.differences_out.Statement.{statement}
 use Rattle.bodies.proofs.differences_out.Tie as tie
 
@@ -14,10 +18,12 @@ array-borrow-prefix-words : tie.Need-array-borrow-prefix-words
 array-borrow-prefix-words c = search needs
 
 slice-aggregate-differences-through-2 : tie.Need-slice-aggregate-differences-through-2
-slice-aggregate-differences-through-2 c = ?
+slice-aggregate-differences-through-2 c = sym (lent _ (omega arith))
 
 differences-through-requires : tie.Need-differences-through-requires
-differences-through-requires c κs = ?
+differences-through-requires c κs =
+    let w = c .before .before .before .before .before .args .width in
+    (search needs, (search needs, (search needs, (lent (w * 16) (omega arith) ∙ omega arith, search needs))))
 
 same-length : tie.Need-same-length
 same-length c = search needs

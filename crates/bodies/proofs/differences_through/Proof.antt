@@ -1,6 +1,11 @@
--- `bodies::differences_through` meets its contract.
+-- `bodies::differences_through` meets its contract: base and differences are read whole, and summed up they are the block.
 -- Assumes nothing.
+use mathlib.Core.Path.{_≡_, ap₂, _∙_}
+use denote.Ref.{now}
 use borrow.Author.Needs.{needs}
+use Rattle.places.specs.Sizes.{t64}
+use Rattle.deltas.specs.Calls.{undeltaPackLeaves}
+use Rattle.bodies.proofs.Bodies.{differences-left}
 use Rattle.bodies.proofs.differences_through.Statement.{statement}
 use Rattle.bodies.proofs.differences_through.Tie as tie
 
@@ -32,7 +37,16 @@ same-length-3 : tie.Need-same-length-3
 same-length-3 c = search needs
 
 returns : tie.Need-returns
-returns c = ?
+returns c =
+    let out = c .before .before in
+    let words = out .before .before .before .before .before .before in
+    let base = words .before .before .before .before .before in
+    let start = base .before .before .before .before .before .before in
+    let args = start .args in
+    let pre = start .pre in
+    out .undelta-pack .ensures .1
+    ∙ ap₂ (undeltaPackLeaves t64 (args .width) (now (args .output))) (words .read-words2 .ensures) (base .read-words .ensures)
+    ∙ differences-left (args .width) (now (args .body)) (now (args .base)) (now (args .words)) (now (args .output)) (pre .0) (pre .1 .0) (pre .1 .1 .0) (pre .1 .1 .1 .0) (pre .1 .1 .1 .1)
 
 pub differences-through-spec : {M : Type 1} → statement M
 differences-through-spec =

@@ -1,6 +1,12 @@
--- `bodies::highest_index` meets its contract.
+-- `bodies::highest_index` meets its contract: the indices are read whole.
 -- Assumes nothing.
+use mathlib.Core.Path.{_≡_, refl, ap, _∙_}
+use native.Mathlib.Omega.{arith}
+use denote.Ref.{now}
+use lib.ListN.{replicate}
 use borrow.Author.Needs.{needs}
+use Rattle.runs.specs.Highest.{highestOf}
+use Rattle.bodies.proofs.Bodies.{numbers-read}
 use Rattle.bodies.proofs.highest_index.Statement.{statement}
 use Rattle.bodies.proofs.highest_index.Tie as tie
 
@@ -20,7 +26,10 @@ cast-result : tie.Need-cast-result
 cast-result c = search needs
 
 returns : tie.Need-returns
-returns c = ?
+returns c =
+    let pairs = c .before .before .before in
+    let body = now (pairs .before .before .before .args .body) in
+    c .highest .ensures ∙ ap highestOf (pairs .read-pairs .ensures ∙ numbers-read 2 body (replicate 1024 0) 1024 refl (omega arith))
 
 pub highest-index-spec : {M : Type 1} → statement M
 highest-index-spec =

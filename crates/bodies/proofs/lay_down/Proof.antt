@@ -1,6 +1,15 @@
--- `bodies::lay_down` meets its contract.
+-- `bodies::lay_down` meets its contract, kind by kind.
 -- Assumes nothing.
+use mathlib.Core.Path.{_≡_, sym, ap, ap₂, _∙_}
+use Prim.Native.Nat.{_<_}
+use native.Mathlib.Omega.{arith}
+use denote.Ref.{now}
+use mathlib.Core.List.{[], _∷_}
 use borrow.Author.Needs.{needs}
+use Rattle.places.specs.Pick.{pick}
+use Rattle.contents.specs.Answers.{good-runs, fileAnswer}
+use Rattle.contents.proofs.Laid.{laid-differences, laid-runs, laid-kind}
+use Rattle.bodies.proofs.Bodies.{laid-plain, block-differences, block-runs, other-done, runs-runs}
 use Rattle.bodies.proofs.lay_down.Statement.{statement}
 use Rattle.bodies.proofs.lay_down.Tie as tie
 
@@ -8,37 +17,67 @@ cast-differences-out : tie.Need-cast-differences-out
 cast-differences-out c = search needs
 
 differences-out-requires : tie.Need-differences-out-requires
-differences-out-requires c κs = ?
+differences-out-requires c κs =
+    let arm = c .before .before in
+    let start = arm .before .before .before in
+    let laid = laid-differences (start .args .e) (start .pre .0) (arm .match .keys1) in
+    (laid .0, (start .pre .1 .0 ∙ laid .1, search needs))
 
 sub-runs-out : tie.Need-sub-runs-out
-sub-runs-out c = ?
+sub-runs-out c =
+    let start = c .before .before .before .before in
+    omega (arith, laid-runs (start .args .e) (start .pre .0) (c .before .match .keys2))
 
 cast-runs-out : tie.Need-cast-runs-out
 cast-runs-out c = search needs
 
 runs-out-requires : tie.Need-runs-out-requires
-runs-out-requires c κs = ?
+runs-out-requires c κs =
+    let arm = c .before .before in
+    let start = arm .before .before .before in
+    let laid = laid-runs (start .args .e) (start .pre .0) (arm .match .keys2) in
+    (laid .2, (start .pre .1 .0 ∙ laid .0, search needs))
 
 packed-out-requires : tie.Need-packed-out-requires
-packed-out-requires c κs = ?
+packed-out-requires c κs =
+    let start = c .before .before .before .before in
+    let low : start .args .e .kind < 2 = omega (arith, laid-kind (start .args .e) (start .pre .0)) in
+    let laid = laid-plain (start .args .e) (start .pre .0) low in
+    ((low, laid .0), (start .pre .1 .0 ∙ laid .1, search needs))
 
 same-length : tie.Need-same-length
 same-length c = search needs
 
 returns : tie.Need-returns
-returns c = ?
+returns c =
+    let out = c .before .before in
+    let arm = out .before .before .before in
+    let args = arm .before .before .before .args in
+    let e = args .e in
+    let body = now (args .body) in
+    other-done e body _ (now (args .output)) (λ k. omega arith) (out .differences-out .ensures ∙ sym (block-differences e body (arm .match .keys1)))
 
 same-length-2 : tie.Need-same-length-2
 same-length-2 c = search needs
 
 returns-2 : tie.Need-returns-2
-returns-2 c = ?
+returns-2 c =
+    let out = c .before .before in
+    let arm = out .before .before .before in
+    let args = arm .before .before .before .args in
+    let e = args .e in
+    let body = now (args .body) in
+    let runs = sym (runs-runs e body (arm .match .keys2)) in
+    (out .runs-out .ensures .0 ∙ ap (λ b. fileAnswer (good-runs (pick b 1 0) 1 ∷ [])) runs, out .runs-out .ensures .1 ∙ ap₂ (λ b l. pick b l (now (args .output))) runs (sym (block-runs e body (arm .match .keys2))))
 
 same-length-3 : tie.Need-same-length-3
 same-length-3 c = search needs
 
 returns-3 : tie.Need-returns-3
-returns-3 c = ?
+returns-3 c =
+    let out = c .before .before in
+    let args = out .before .before .before .before .before .args in
+    other-done (args .e) (now (args .body)) _ (now (args .output)) (λ k. omega arith) (out .packed-out .ensures)
 
 pub lay-down-spec : {M : Type 1} → statement M
 lay-down-spec =

@@ -1,6 +1,10 @@
--- `bodies::packed_out` meets its contract.
+-- `bodies::packed_out` meets its contract: the part of the array that is lent is as long as the packed words.
 -- Assumes nothing.
+use mathlib.Core.Path.{_≡_, sym, _∙_}
+use Prim.Native.Nat.{_*_}
+use native.Mathlib.Omega.{arith}
 use borrow.Author.Needs.{needs}
+use Rattle.bodies.proofs.Bodies.{lent}
 use Rattle.bodies.proofs.packed_out.Statement.{statement}
 use Rattle.bodies.proofs.packed_out.Tie as tie
 
@@ -14,10 +18,12 @@ array-borrow-prefix-words : tie.Need-array-borrow-prefix-words
 array-borrow-prefix-words c = search needs
 
 slice-aggregate-packed-through : tie.Need-slice-aggregate-packed-through
-slice-aggregate-packed-through c = ?
+slice-aggregate-packed-through c = sym (lent _ (omega arith))
 
 packed-through-requires : tie.Need-packed-through-requires
-packed-through-requires c κs = ?
+packed-through-requires c κs =
+    let w = c .before .before .before .before .before .args .e .width in
+    (search needs, (search needs, (lent (w * 16) (omega arith) ∙ omega arith, search needs)))
 
 same-length : tie.Need-same-length
 same-length c = search needs

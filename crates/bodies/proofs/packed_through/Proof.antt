@@ -1,6 +1,13 @@
--- `bodies::packed_through` meets its contract.
+-- `bodies::packed_through` meets its contract: the words are read whole, and unpacked they are the block.
 -- Assumes nothing.
+use mathlib.Core.Path.{_≡_, ap, _∙_}
+use native.Mathlib.Omega.{arith}
+use denote.Ref.{now}
 use borrow.Author.Needs.{needs}
+use Rattle.places.specs.Sizes.{t64}
+use Rattle.packing.specs.Calls.{unpackLeaves}
+use Rattle.deltas.specs.Calls.{unforPackLeaves}
+use Rattle.bodies.proofs.Bodies.{packed-left, frame-left}
 use Rattle.bodies.proofs.packed_through.Statement.{statement}
 use Rattle.bodies.proofs.packed_through.Tie as tie
 
@@ -26,7 +33,15 @@ same-length-2 : tie.Need-same-length-2
 same-length-2 c = search needs
 
 returns : tie.Need-returns
-returns c = ?
+returns c =
+    let out = c .before .before in
+    let arm = out .before .before .before .before in
+    let words = arm .before .before .before .before in
+    let start = words .before .before .before .before .before in
+    let args = start .args in
+    out .unpack .ensures .1
+    ∙ ap (unpackLeaves t64 (args .e .width) (now (args .output))) (words .read-words .ensures)
+    ∙ packed-left (args .e) (now (args .body)) (now (args .words)) (now (args .output)) (start .pre .0 .1) (start .pre .1 .0) (start .pre .1 .1 .0) (start .pre .1 .1 .1) (arm .if1 .taken)
 
 same-length-3 : tie.Need-same-length-3
 same-length-3 c = search needs
@@ -35,7 +50,15 @@ same-length-4 : tie.Need-same-length-4
 same-length-4 c = search needs
 
 returns-2 : tie.Need-returns-2
-returns-2 c = ?
+returns-2 c =
+    let out = c .before .before in
+    let arm = out .before .before .before .before in
+    let words = arm .before .before .before .before in
+    let start = words .before .before .before .before .before in
+    let args = start .args in
+    out .unfor-pack .ensures .1
+    ∙ ap (λ x. unforPackLeaves t64 (args .e .width) (now (args .output)) x (args .e .reference)) (words .read-words .ensures)
+    ∙ frame-left (args .e) (now (args .body)) (now (args .words)) (now (args .output)) (start .pre .0 .1) (start .pre .1 .0) (start .pre .1 .1 .0) (start .pre .1 .1 .1) (omega arith)
 
 pub packed-through-spec : {M : Type 1} → statement M
 packed-through-spec =

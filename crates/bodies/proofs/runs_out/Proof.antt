@@ -1,6 +1,16 @@
--- `bodies::runs_out` meets its contract.
+-- `bodies::runs_out` meets its contract: the part of the array that is lent is as long as there are run values.
 -- Assumes nothing.
+use mathlib.Core.List.{[], _∷_}
+use mathlib.Core.Path.{_≡_, sym, ap, _∙_}
+use Prim.Native.Nat.{_+_, _*_}
+use native.Mathlib.Omega.{arith}
+use denote.Ref.{now}
 use borrow.Author.Needs.{needs}
+use Rattle.places.specs.Pick.{pick}
+use Rattle.runs.specs.Runs.{decodeOf}
+use Rattle.contents.specs.Answers.{good-runs, fileAnswer}
+use Rattle.bodies.specs.Bodies.{wordsFrom, runIndices, indexed}
+use Rattle.bodies.proofs.Bodies.{lent}
 use Rattle.bodies.proofs.runs_out.Statement.{statement}
 use Rattle.bodies.proofs.runs_out.Tie as tie
 
@@ -11,25 +21,27 @@ array-borrow-prefix-values : tie.Need-array-borrow-prefix-values
 array-borrow-prefix-values c = search needs
 
 slice-aggregate-runs-through-2 : tie.Need-slice-aggregate-runs-through-2
-slice-aggregate-runs-through-2 c = ?
+slice-aggregate-runs-through-2 c = sym (lent _ (omega arith))
 
 runs-through-requires : tie.Need-runs-through-requires
-runs-through-requires c κs = ?
-
-number-requires : tie.Need-number-requires
-number-requires c κs = search needs
+runs-through-requires c κs =
+    let start = c .before .before .before .before .before in
+    (start .pre .1 .0 ∙ ap (λ m. 2048 + 8 * m) (sym (lent (start .args .n) (start .pre .0))), (search needs, search needs))
 
 same-length : tie.Need-same-length
 same-length c = search needs
 
 returns : tie.Need-returns
-returns c = ?
-
-same-length-2 : tie.Need-same-length-2
-same-length-2 c = search needs
-
-returns-2 : tie.Need-returns-2
-returns-2 c = ?
+returns c =
+    let through = c .before .before .before .before in
+    let start = through .before .before .before .before .before .before in
+    let body = now (start .args .body) in
+    let long = lent (start .args .n) (start .pre .0) in
+    (
+      through .runs-through .ensures .0 ∙ ap (λ n. fileAnswer (good-runs (pick (indexed n body) 1 0) 1 ∷ [])) long,
+      through .runs-through .ensures .1
+      ∙ ap (λ n. pick (indexed n body) (decodeOf (wordsFrom body 2048 n) (runIndices body)) (now (start .args .output))) long,
+    )
 
 pub runs-out-spec : {M : Type 1} → statement M
 runs-out-spec =
@@ -39,8 +51,5 @@ runs-out-spec =
     array-borrow-prefix-values
     slice-aggregate-runs-through-2
     runs-through-requires
-    number-requires
     same-length
-    returns
-    same-length-2
-    returns-2)
+    returns)

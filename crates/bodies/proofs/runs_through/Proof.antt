@@ -1,6 +1,15 @@
--- `bodies::runs_through` meets its contract.
+-- `bodies::runs_through` meets its contract: indices and values are read whole, and decode takes them exactly when every index is in range.
 -- Assumes nothing.
+use mathlib.Core.List.{[], _∷_}
+use mathlib.Core.Path.{_≡_, ap, ap₂, _∙_}
+use denote.Ref.{now}
 use borrow.Author.Needs.{needs}
+use Rattle.places.specs.Answers.{isDone}
+use Rattle.places.specs.Pick.{pick}
+use Rattle.places.specs.Takes.{answerFor}
+use Rattle.runs.specs.Calls.{decodeTakes, decodeLeaves}
+use Rattle.contents.specs.Answers.{good-runs, fileAnswer}
+use Rattle.bodies.proofs.Bodies.{runs-taken, runs-left}
 use Rattle.bodies.proofs.runs_through.Statement.{statement}
 use Rattle.bodies.proofs.runs_through.Tie as tie
 
@@ -22,6 +31,9 @@ read-words-requires c κs = search needs
 decode-requires : tie.Need-decode-requires
 decode-requires c κs = search needs
 
+runs-answer-requires : tie.Need-runs-answer-requires
+runs-answer-requires c κs = search needs
+
 same-length : tie.Need-same-length
 same-length c = search needs
 
@@ -32,7 +44,25 @@ same-length-3 : tie.Need-same-length-3
 same-length-3 c = search needs
 
 returns : tie.Need-returns
-returns c = ?
+returns c =
+    let out = c .before .before .before in
+    let words = out .before .before .before .before .before .before in
+    let pairs = words .before .before .before .before .before in
+    let start = pairs .before .before .before .before .before .before in
+    let args = start .args in
+    let body = now (args .body) in
+    let values = now (args .values) in
+    let indices = now (args .indices) in
+    let output = now (args .output) in
+    let pre = start .pre in
+    let read = ap₂ (λ v x. decodeTakes v x output) (words .read-words .ensures) (pairs .read-pairs .ensures) in
+    let taken = ap isDone (out .decode .ensures .0 ∙ ap answerFor read) ∙ runs-taken body indices values output (pre .0) (pre .1 .0) (pre .1 .1) in
+    (
+      c .runs-answer .ensures ∙ ap (λ b. fileAnswer (good-runs (pick b 1 0) 1 ∷ [])) taken,
+      out .decode .ensures .1
+      ∙ ap₂ (λ v x. decodeLeaves v x output) (words .read-words .ensures) (pairs .read-pairs .ensures)
+      ∙ runs-left body indices values output (pre .0) (pre .1 .0) (pre .1 .1),
+    )
 
 pub runs-through-spec : {M : Type 1} → statement M
 runs-through-spec =
@@ -44,6 +74,7 @@ runs-through-spec =
     part-read-words-end
     read-words-requires
     decode-requires
+    runs-answer-requires
     same-length
     same-length-2
     same-length-3

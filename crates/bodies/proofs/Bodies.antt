@@ -1,0 +1,232 @@
+-- The laws of one body: the numbers that are read of it, the block that it stands for by its kind, and the tests of it one by one.
+-- Assumes nothing.
+use mathlib.Core.Bool.{Bool, true, false}
+use mathlib.Core.List.{List, [], _∷_}
+use mathlib.Core.Path.{_≡_, refl, sym, ap, ap₂, _∙_}
+use Prim.Native.Nat.{ℕ, _+_, _*_, _-_, _≤_, _<_}
+use native.Mathlib.Decide.{decLe}
+use native.Mathlib.Omega.{arith}
+use lib.Dec.{eqb, leb, ltb}
+use lib.ListN.{length, take, drop, replicate, length-drop}
+use lib.Seq.{take-all, length-take-le}
+use borrow.Author.Tests.{le-leb, lt-leb, lt-ltb, le-ltb, eq-eqb, ne-eqb}
+use Rattle.places.specs.declared.Answer.the-variants.{Done as Taken, Dictionary}
+use Rattle.places.specs.Answers.{isDone, unless}
+use Rattle.places.specs.Pick.{pick}
+use Rattle.places.specs.Search.{firstBeyond}
+use Rattle.places.specs.Sizes.{t64, lanes}
+use Rattle.places.specs.Takes.{answerFor}
+use Rattle.places.proofs.Tabs.{length-tab}
+use Rattle.packing.specs.Calls.{unpackLeaves}
+use Rattle.packing.specs.Packed.{unpackOf}
+use Rattle.packing.proofs.Answers.{unpack-leaves}
+use Rattle.deltas.specs.Calls.{unforPackLeaves, undeltaPackLeaves}
+use Rattle.deltas.specs.Deltas.{unforPackOf, undeltaPackOf}
+use Rattle.deltas.proofs.Answers.{unfor-pack-leaves, undelta-pack-leaves}
+use Rattle.runs.specs.Calls.{decodeTakes, decodeLeaves}
+use Rattle.runs.specs.Highest.{highestOf}
+use Rattle.runs.specs.Runs.{decodeOf}
+use Rattle.runs.proofs.Highs.{highest-beyond}
+use Rattle.little.specs.Little.{numbersOf, readLeaves}
+use Rattle.little.proofs.Little.{read-all}
+use Rattle.contents.specs.declared.Entry.{Entry}
+use Rattle.contents.specs.declared.FileAnswer.{FileAnswer}
+use Rattle.contents.specs.declared.FileAnswer.the-variants.{Done, Block, Cut, Entry as BadEntry, Over, Runs}
+use Rattle.contents.specs.Answers.{enough, an-end, good-runs, fileAnswer, numberOf, left}
+use Rattle.contents.specs.Contents.{isLaidOut}
+use Rattle.contents.proofs.Answers.{passed, stopped, none-left, left-refused}
+use Rattle.contents.proofs.Laid.{laid-packed, laid-frame}
+use Rattle.bodies.specs.Bodies.{wordsFrom, packedFrom, runIndices, runCount, blockOf, indexed, hasGoodRuns, bodyTests, blockTests, blockLeaves}
+
+-- As many numbers are read as are asked for.
+pub length-numbers : (k : ℕ) (bytes : List ℕ) (n : ℕ) → length (numbersOf k bytes n) ≡ n
+unfolding numbersOf
+length-numbers k bytes n = length-tab n _
+
+-- A list of n places that is filled from the front of bytes that are enough holds n numbers of them.
+pub numbers-read : (k : ℕ) (bytes numbers : List ℕ) (n : ℕ) → length numbers ≡ n → k * n ≤ length bytes
+    → readLeaves k bytes numbers ≡ numbersOf k bytes n
+numbers-read k bytes numbers n l h = read-all k bytes numbers (rw l h) ∙ ap (numbersOf k bytes) l
+
+-- The same for words and the part of a body that begins at byte `at`.
+pub words-read : (body words : List ℕ) (at n : ℕ) → length words ≡ n → at + 8 * n ≤ length body
+    → readLeaves 8 (take (length body - at) (drop at body)) words ≡ wordsFrom body at n
+words-read body words at n l h =
+    let rest : take (length body - at) (drop at body) ≡ drop at body = take-all (length body - at) (drop at body) (omega (arith, length-drop at body)) in
+    ap (λ part. readLeaves 8 part words) rest ∙ numbers-read 8 (drop at body) words n l (omega (arith, length-drop at body))
+
+-- The first n places of an array of 1,024 zeros are n places.
+pub lent : (n : ℕ) → n ≤ 1024 → length (take n (replicate {A = ℕ} 1024 0)) ≡ n
+lent n h = length-take-le n (replicate 1024 0) h
+
+-- An entry of kind 0 or 1 that is as laid out says this of its width and its length.
+pub laid-plain : (e : Entry) → isLaidOut e ≡ true → e .kind < 2 → (e .width ≤ 64) × (e .length ≡ 128 * e .width)
+laid-plain e good k =
+    elim (decLe (e .kind) 0) [
+      | yes h ↦ laid-packed e good (omega arith)
+      | no h ↦ laid-frame e good (omega arith)
+    ]
+
+-- The block by its kind.
+module _ (e : Entry) (body : List ℕ) where
+  block-packed : e .kind ≡ 0 → blockOf e body ≡ unpackOf t64 (e .width) (packedFrom body 0 (e .width))
+  unfolding blockOf
+  block-packed k = rw k
+
+  block-frame : e .kind ≡ 1 → blockOf e body ≡ unforPackOf t64 (e .width) (packedFrom body 0 (e .width)) (e .reference)
+  unfolding blockOf
+  block-frame k = rw k
+
+  pub block-differences : e .kind ≡ 2
+      → blockOf e body ≡ undeltaPackOf t64 (e .width) (packedFrom body 128 (e .width)) (wordsFrom body 0 (lanes t64))
+  unfolding blockOf
+  block-differences k = rw k
+
+  pub block-runs : e .kind ≡ 3 → blockOf e body ≡ decodeOf (wordsFrom body 2048 (runCount e)) (runIndices body)
+  unfolding blockOf
+  block-runs k = rw k
+
+  -- The words of a packed body and of a frame, unpacked, are the block.
+  module _ (words output : List ℕ) (w : e .width ≤ 64) (b : length body ≡ 128 * e .width) (l : length words ≡ 16 * e .width) (o : length output ≡ 1024) where
+    packed-read : readLeaves 8 body words ≡ packedFrom body 0 (e .width)
+    packed-read = numbers-read 8 body words (16 * e .width) l (omega arith)
+
+    pub packed-left : e .kind ≡ 0 → unpackLeaves t64 (e .width) output (readLeaves 8 body words) ≡ blockOf e body
+    packed-left k =
+        ap (unpackLeaves t64 (e .width) output) packed-read
+        ∙ unpack-leaves t64 (e .width) output (packedFrom body 0 (e .width)) w o (length-numbers 8 body (16 * e .width))
+        ∙ sym (block-packed k)
+
+    pub frame-left : e .kind ≡ 1 → unforPackLeaves t64 (e .width) output (readLeaves 8 body words) (e .reference) ≡ blockOf e body
+    frame-left k =
+        ap (λ x. unforPackLeaves t64 (e .width) output x (e .reference)) packed-read
+        ∙ unfor-pack-leaves t64 (e .width) output (packedFrom body 0 (e .width)) w o (length-numbers 8 body (16 * e .width)) (e .reference)
+        ∙ sym (block-frame k)
+
+-- The base words and the differences of a body of differences, summed up, are the block.
+pub differences-left : (w : ℕ) (body base words output : List ℕ) → w ≤ 64 → length body ≡ 128 + 128 * w → length base ≡ 16
+    → length words ≡ 16 * w → length output ≡ 1024
+    → undeltaPackLeaves t64 w output (readLeaves 8 (take (length body - 128) (drop 128 body)) words) (readLeaves 8 body base)
+    ≡ undeltaPackOf t64 w (packedFrom body 128 w) (wordsFrom body 0 (lanes t64))
+differences-left w body base words output h b s l o =
+    ap₂ (undeltaPackLeaves t64 w output) (words-read body words 128 (16 * w) l (omega arith)) (numbers-read 8 body base 16 s (omega arith))
+    ∙ undelta-pack-leaves t64 w output (packedFrom body 128 w) (wordsFrom body 0 16) h o (length-numbers 8 (drop 128 body) (16 * w)) (length-numbers 8 body 16)
+
+-- Every run index is below n exactly when the highest one is.
+pub indexed-high : (n : ℕ) (body : List ℕ) → indexed n body ≡ ltb (highestOf (runIndices body)) n
+indexed-high n body =
+    let xs = runIndices body in
+    let long : length xs ≡ 1024 = length-numbers 2 body 1024 in
+    let same = highest-beyond n xs (omega arith) in
+    elim (decLe n (highestOf xs)) [
+      | yes h ↦ ne-eqb (firstBeyond n xs) 1024 (λ e. omega (arith, same .1 (e ∙ sym long))) ∙ sym (le-ltb (highestOf xs) n h)
+      | no h ↦ eq-eqb (firstBeyond n xs) 1024 (same .0 (omega arith) ∙ long) ∙ sym (lt-ltb (highestOf xs) n (omega arith))
+    ]
+
+-- Decode takes the run values and the run indices of a body exactly when every run index is below the number of the values.
+done-only : (b : Bool) (p : ℕ) → isDone (unless b (Dictionary p) Taken) ≡ b
+done-only true p = refl
+done-only false p = refl
+
+module _ (body indices values output : List ℕ) (b : length body ≡ 2048 + 8 * length values) (i : length indices ≡ 1024) (o : length output ≡ 1024) where
+  values-read : readLeaves 8 (take (length body - 2048) (drop 2048 body)) values ≡ wordsFrom body 2048 (length values)
+  values-read = words-read body values 2048 (length values) refl (omega arith)
+
+  indices-read : readLeaves 2 body indices ≡ runIndices body
+  indices-read = numbers-read 2 body indices 1024 i (omega arith)
+
+  indices-taken : isDone (answerFor (decodeTakes (wordsFrom body 2048 (length values)) (runIndices body) output)) ≡ indexed (length values) body
+  unfolding answerFor
+  indices-taken =
+      let v = wordsFrom body 2048 (length values) in
+      let x = runIndices body in
+      simp (eq-eqb (length x) 1024 (length-numbers 2 body 1024), eq-eqb (length output) 1024 o)
+      (done-only (eqb (firstBeyond (length v) x) (length x)) (firstBeyond (length v) x)
+      ∙ ap₂ (λ k m. eqb (firstBeyond k x) m) (length-numbers 8 (drop 2048 body) (length values)) (length-numbers 2 body 1024))
+
+  pub runs-taken : isDone (answerFor (decodeTakes (readLeaves 8 (take (length body - 2048) (drop 2048 body)) values) (readLeaves 2 body indices) output))
+      ≡ indexed (length values) body
+  runs-taken = ap₂ (λ v x. isDone (answerFor (decodeTakes v x output))) values-read indices-read ∙ indices-taken
+
+  pub runs-left : decodeLeaves (readLeaves 8 (take (length body - 2048) (drop 2048 body)) values) (readLeaves 2 body indices) output
+      ≡ pick (indexed (length values) body) (decodeOf (wordsFrom body 2048 (length values)) (runIndices body)) output
+  unfolding decodeLeaves
+  runs-left =
+      ap₂ (λ v x. decodeLeaves v x output) values-read indices-read
+      ∙ ap (λ d. pick d (decodeOf (wordsFrom body 2048 (length values)) (runIndices body)) output) indices-taken
+
+-- The last test, of the run indices, by what they are: what is answered, and what is left in an output.
+runs-answer : (b : Bool) → fileAnswer (good-runs (pick b 1 0) 1 ∷ []) ≡ pick b Done (Runs 0)
+runs-answer true = passed (good-runs 1 1) [] refl ∙ none-left
+runs-answer false = stopped (good-runs 0 1) [] refl
+
+pub runs-done : {b : Bool} → b ≡ true → Done ≡ fileAnswer (good-runs (pick b 1 0) 1 ∷ [])
+runs-done {b} h = sym (runs-answer b ∙ ap (λ x. pick x Done (Runs 0)) h)
+
+pub runs-bad : {b : Bool} → b ≡ false → Runs 0 ≡ fileAnswer (good-runs (pick b 1 0) 1 ∷ [])
+runs-bad {b} h = sym (runs-answer b ∙ ap (λ x. pick x Done (Runs 0)) h)
+
+answer-left : (b : Bool) (new old : List ℕ) → left (fileAnswer (good-runs (pick b 1 0) 1 ∷ [])) new old ≡ pick b new old
+answer-left true new old = ap (λ a. left a new old) (runs-answer true)
+answer-left false new old = ap (λ a. left a new old) (runs-answer false)
+
+-- The tests of a body, one by one.
+module _ (e : Entry) (body : List ℕ) where
+  -- a body of another kind than 3 has no run indices
+  pub other-runs : (e .kind ≡ 3 → ⊥) → hasGoodRuns e body ≡ true
+  unfolding hasGoodRuns
+  other-runs k = simp (ne-eqb (e .kind) 3 k)
+
+  -- so it is done when its block is laid down
+  pub other-done : (new output : List ℕ) → (e .kind ≡ 3 → ⊥) → new ≡ blockOf e body
+      → (Done ≡ fileAnswer (good-runs (pick (hasGoodRuns e body) 1 0) 1 ∷ [])) × (new ≡ pick (hasGoodRuns e body) (blockOf e body) output)
+  other-done new output k h = (runs-done (other-runs k), h ∙ sym (ap (λ b. pick b (blockOf e body) output) (other-runs k)))
+
+  pub runs-runs : e .kind ≡ 3 → hasGoodRuns e body ≡ indexed (runCount e) body
+  unfolding hasGoodRuns
+  runs-runs k = simp (eq-eqb (e .kind) 3 k)
+
+  pub not-laid : isLaidOut e ≡ false → fileAnswer (bodyTests e body) ≡ BadEntry 0
+  not-laid f = stopped _ _ (ap (λ b. eqb (pick b 1 0) 1) f) ∙ ap (λ b. BadEntry (pick b 1 0)) f
+
+  module _ (good : isLaidOut e ≡ true) where
+    laid : fileAnswer (bodyTests e body)
+        ≡ fileAnswer (enough (e .length) (length body) ∷ an-end (e .length) (length body) ∷ good-runs (pick (hasGoodRuns e body) 1 0) 1 ∷ [])
+    laid = passed _ _ (ap (λ b. eqb (pick b 1 0) 1) good)
+
+    pub body-cut : length body < e .length → fileAnswer (bodyTests e body) ≡ Cut
+    body-cut h = laid ∙ stopped _ _ (lt-leb (e .length) (length body) h)
+
+    pub body-over : e .length < length body → fileAnswer (bodyTests e body) ≡ Over
+    body-over h =
+        laid
+        ∙ passed _ _ (le-leb (e .length) (length body) (omega arith))
+        ∙ stopped _ _ (lt-leb (length body) (e .length) h)
+
+    pub body-whole : length body ≡ e .length → fileAnswer (bodyTests e body) ≡ fileAnswer (good-runs (pick (hasGoodRuns e body) 1 0) 1 ∷ [])
+    body-whole h =
+        laid
+        ∙ passed _ _ (le-leb (e .length) (length body) (omega arith))
+        ∙ passed _ _ (le-leb (length body) (e .length) (omega arith))
+
+  -- With an output, its length is tested first; after a refusal it holds what it held.
+  module _ (output : List ℕ) where
+    pub bad-output : (length output ≡ 1024 → ⊥) → fileAnswer (blockTests e body output) ≡ Block
+    bad-output h = stopped _ _ (ne-eqb (length output) 1024 h)
+
+    pub good-output : length output ≡ 1024 → fileAnswer (blockTests e body output) ≡ fileAnswer (bodyTests e body)
+    good-output o = passed _ _ (eq-eqb (length output) 1024 o)
+
+    pub refused : {a : FileAnswer} → fileAnswer (blockTests e body output) ≡ a → (numberOf a ≡ 0 → ⊥)
+        → (a ≡ fileAnswer (blockTests e body output)) × (output ≡ blockLeaves e body output)
+    unfolding blockLeaves
+    refused {a} r h = (sym r, sym (ap (λ x. left x (blockOf e body) output) r ∙ left-refused a (blockOf e body) output h))
+
+    -- For a body that is as its entry says, the run indices decide.
+    module _ (good : isLaidOut e ≡ true) (h : length body ≡ e .length) (o : length output ≡ 1024) where
+      pub block-answer : fileAnswer (blockTests e body output) ≡ fileAnswer (good-runs (pick (hasGoodRuns e body) 1 0) 1 ∷ [])
+      block-answer = good-output o ∙ body-whole good h
+
+      pub block-left : blockLeaves e body output ≡ pick (hasGoodRuns e body) (blockOf e body) output
+      unfolding blockLeaves
+      block-left = ap (λ a. left a (blockOf e body) output) block-answer ∙ answer-left (hasGoodRuns e body) (blockOf e body) output
