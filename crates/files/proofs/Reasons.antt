@@ -22,7 +22,7 @@ use Rattle.contents.specs.declared.Entry.{Entry}
 use Rattle.contents.specs.declared.FileAnswer.{FileAnswer}
 use Rattle.contents.specs.declared.FileAnswer.the-variants.{Done, Block, Cut, Edition, Entry as BadEntry, Over, Beyond, Runs}
 use Rattle.contents.specs.Answers.{FileTest, a-block, a-number, good-runs, fileAnswer, numberOf}
-use Rattle.contents.specs.Contents.{edition, count, contentsSize, entryOf, isLaidOut, badEntry, bodyStart, contentsTests}
+use Rattle.contents.specs.Contents.{edition, count, contentsSize, entryOf, isLaidOut, badEntry, bodyStart, entriesTests, contentsTests}
 use Rattle.contents.specs.First.{firstBad}
 use Rattle.contents.specs.Plain.{LaidOut}
 use Rattle.contents.proofs.Accepted.{Whole, accepted, accepts, done-front}
@@ -34,6 +34,7 @@ use Rattle.bodies.specs.Bodies.{hasGoodRuns, runIndices, runCount}
 use Rattle.files.specs.Files.{bodyOf, badRuns, rowCount, fileTests, blockTests, rowTests}
 use Rattle.files.specs.Plain.{GoodRuns, Headed, LaidTo, GoodTo, Right, Reason, BlockReason, RowReason}
 use Rattle.files.specs.Plain.{short-head, other-edition, short-entries, bad-entry, short-bodies, left-over, bad-runs, none}
+use Rattle.files.specs.Plain.{bad-output, of-file-block, no-block, block-there, of-file-row, no-row, row-there}
 
 -- ---- the tests, in plain arithmetic
 
@@ -44,8 +45,10 @@ runs-plain e body = go (eqb (e .kind) 3) refl
   where
     index : (i : ℕ) → i < 1024 → getD (tab 1024 (λ i. little body (i * 2) 2)) i 0 ≡ little body (i * 2) 2
     index i h = getD-tab 1024 (λ i. little body (i * 2) 2) i 0 h
+
     long : length (tab 1024 (λ i. little body (i * 2) 2)) ≡ 1024
     long = length-tab 1024 (λ i. little body (i * 2) 2)
+
     go : (t : Bool) → eqb (e .kind) 3 ≡ t → (pick t (eqb (firstBeyond (runCount e) (tab 1024 (λ i. little body (i * 2) 2))) 1024) true ≡ true) ↔ GoodRuns e body
     go true k = (
       (λ h _ i l. subst (λ n. n < runCount e) (index i l)
@@ -54,3 +57,222 @@ runs-plain e body = go (eqb (e .kind) 3) refl
           (λ i l. subst (λ n. n < runCount e) (sym (index i (omega (arith, long)))) (g (eqb-true (e .kind) 3 k) i (omega (arith, long)))) ∙ long)),
     )
     go false k = ((λ _ q. absurd (eqb-false (e .kind) 3 k q)), (λ _. refl))
+
+module _ (l : List ℕ) where
+  -- Entries that pass their test are as laid out, and the other way round.
+  laid-to : (n : ℕ) → ((i : ℕ) → i < n → isLaidOut (entryOf l i) ≡ true) → LaidTo l n
+  laid-to n f i h = laid-plain (entryOf l i) .0 (f i h)
+
+  laid-from : (n : ℕ) → LaidTo l n → (i : ℕ) → i < n → isLaidOut (entryOf l i) ≡ true
+  laid-from n f i h = laid-plain (entryOf l i) .1 (f i h)
+
+  good-to : (n : ℕ) → ((i : ℕ) → i < n → hasGoodRuns (entryOf l i) (bodyOf l i) ≡ true) → GoodTo l n
+  good-to n f i h = runs-plain (entryOf l i) (bodyOf l i) .0 (f i h)
+
+  good-from : (n : ℕ) → GoodTo l n → (i : ℕ) → i < n → hasGoodRuns (entryOf l i) (bodyOf l i) ≡ true
+  good-from n f i h = runs-plain (entryOf l i) (bodyOf l i) .1 (f i h)
+
+  -- a test that does not pass fails
+  not-true : (b : Bool) → (b ≡ true → ⊥) → b ≡ false
+  not-true true n = absurd (n refl)
+  not-true false n = refl
+
+  entry-found : (p : ℕ) → p < count l → (LaidOut (entryOf l p) → ⊥) → LaidTo l p → badEntry l ≡ p
+  unfolding badEntry
+  entry-found p h bad before =
+      sym (first-only (count l) p (λ i. isLaidOut (entryOf l i)) (omega arith) (laid-from p before)
+      (λ _. not-true (isLaidOut (entryOf l p)) (λ e. bad (laid-plain (entryOf l p) .0 e))))
+
+  entries-found : LaidTo l (count l) → badEntry l ≡ count l
+  unfolding badEntry
+  entries-found all = sym (first-only (count l) (count l) (λ i. isLaidOut (entryOf l i)) (omega arith) (laid-from (count l) all) (λ h. absurd (omega arith)))
+
+  runs-found : (p : ℕ) → p < count l → (GoodRuns (entryOf l p) (bodyOf l p) → ⊥) → GoodTo l p → badRuns l ≡ p
+  unfolding badRuns
+  runs-found p h bad before =
+      sym (first-only (count l) p (λ i. hasGoodRuns (entryOf l i) (bodyOf l i)) (omega arith) (good-from p before)
+      (λ _. not-true (hasGoodRuns (entryOf l p) (bodyOf l p)) (λ e. bad (runs-plain (entryOf l p) (bodyOf l p) .0 e))))
+
+  all-runs-found : GoodTo l (count l) → badRuns l ≡ count l
+  unfolding badRuns
+  all-runs-found all =
+      sym (first-only (count l) (count l) (λ i. hasGoodRuns (entryOf l i) (bodyOf l i)) (omega arith) (good-from (count l) all) (λ h. absurd (omega arith)))
+
+  -- ---- a reason gives its answer
+
+  -- no refusal is Done
+  apart : (a : FileAnswer) → (numberOf a ≡ 0 → ⊥) → a ≡ Done → ⊥
+  apart a h e = h (ap numberOf e)
+
+  of-contents : (a : FileAnswer) → fileAnswer (contentsTests l (length l)) ≡ a → (numberOf a ≡ 0 → ⊥) → fileAnswer (fileTests l) ≡ a
+  of-contents a e h =
+      in-front-refused (contentsTests l (length l)) (good-runs (badRuns l) (count l) ∷ []) (λ d. apart a h (sym e ∙ d)) ∙ e
+
+  of-entries : (a : FileAnswer) → Headed l → fileAnswer (entriesTests l (length l)) ≡ a → (numberOf a ≡ 0 → ⊥) → fileAnswer (fileTests l) ≡ a
+  of-entries a w e h = of-contents a (Checks.entries-there l (length l) (w .head) (w .first) (w .few) (w .room) ∙ e) h
+
+  right-done : Right l → fileAnswer (contentsTests l (length l)) ≡ Done
+  right-done r =
+      accepts l (length l)
+      (record {
+        head = r .headed .head;
+        first = r .headed .first;
+        few = r .headed .few;
+        room = r .headed .room;
+        laid = laid-from (count l) (r .laid);
+        end = r .end;
+      })
+
+  of-runs : Right l → fileAnswer (fileTests l) ≡ fileAnswer (good-runs (badRuns l) (count l) ∷ [])
+  of-runs r = in-front-done (contentsTests l (length l)) (good-runs (badRuns l) (count l) ∷ []) (right-done r)
+
+  pub reason-gives : {a : FileAnswer} → Reason l a → fileAnswer (fileTests l) ≡ a
+  reason-gives (short-head h) = of-contents Cut (Checks.short-head l (length l) h) (λ e. omega arith)
+  reason-gives (other-edition h (inl o)) = of-contents Edition (Checks.other-edition l (length l) h o) (λ e. omega arith)
+  reason-gives (other-edition h (inr m)) = of-contents Edition (Checks.many-blocks l (length l) h m) (λ e. omega arith)
+  reason-gives (short-entries h f m s) = of-contents Cut (Checks.short-entries l (length l) h f m s) (λ e. omega arith)
+  reason-gives (bad-entry p w h bad before) =
+      let found : badEntry l ≡ p = entry-found p h bad before in
+      of-entries (BadEntry p) w (Checks.bad-entries l (length l) (omega arith) ∙ ap BadEntry found) (λ e. omega arith)
+  reason-gives (short-bodies w all s) = of-entries Cut w (Checks.short-bodies l (length l) (entries-found all) s) (λ e. omega arith)
+  reason-gives (left-over w all s) = of-entries Over w (Checks.left-over l (length l) (entries-found all) (omega arith) s) (λ e. omega arith)
+  reason-gives (bad-runs p r h bad before) =
+      let found : badRuns l ≡ p = runs-found p h bad before in
+      of-runs r ∙ stopped _ _ (ne-eqb (badRuns l) (count l) (λ e. omega arith)) ∙ ap Runs found
+  reason-gives (none r all) = of-runs r ∙ passed _ _ (eq-eqb (badRuns l) (count l) (all-runs-found all)) ∙ none-left
+
+  -- ---- every file has a reason
+
+  from-runs : Right l → (a : FileAnswer) × Reason l a
+  unfolding badRuns
+  from-runs r =
+      elim (decLt (badRuns l) (count l)) [
+        | yes h ↦ (
+          Runs (badRuns l),
+          bad-runs (badRuns l) r h
+              (λ g. false-true (sym (first-at (count l) _ h) ∙ runs-plain (entryOf l (badRuns l)) (bodyOf l (badRuns l)) .1 g))
+              (good-to (badRuns l) (first-before (count l) _)),
+        )
+        | no h ↦ (Done, none r (good-to (count l) (λ i b. first-before (count l) (λ i. hasGoodRuns (entryOf l i) (bodyOf l i)) i (omega (arith, first-le (count l) (λ i. hasGoodRuns (entryOf l i) (bodyOf l i)))))))
+      ]
+
+  from-entries : Headed l → (a : FileAnswer) × Reason l a
+  unfolding badEntry
+  from-entries w =
+      elim (decLt (badEntry l) (count l)) [
+        | yes h ↦ (
+          BadEntry (badEntry l),
+          bad-entry (badEntry l) w h
+              (λ g. false-true (sym (first-at (count l) _ h) ∙ laid-plain (entryOf l (badEntry l)) .1 g))
+              (laid-to (badEntry l) (first-before (count l) _)),
+        )
+        | no h ↦ sizes (laid-to (count l) (λ i b. first-before (count l) (λ i. isLaidOut (entryOf l i)) i (omega (arith, first-le (count l) (λ i. isLaidOut (entryOf l i))))))
+      ]
+    where
+      sizes : LaidTo l (count l) → (a : FileAnswer) × Reason l a
+      sizes all =
+          elim (decLt (length l) (bodyStart l (count l))) [
+            | yes s ↦ (Cut, short-bodies w all s)
+            | no s ↦ elim (decLt (bodyStart l (count l)) (length l)) [
+              | yes m ↦ (Over, left-over w all m)
+              | no m ↦ from-runs (record { headed = w; laid = all; end = omega arith })
+            ]
+          ]
+
+  from-head : (a : FileAnswer) × Reason l a
+  from-head =
+      elim (decLe 4 (length l)) [
+        | no h ↦ (Cut, short-head (omega arith))
+        | yes h ↦ elim (ℕ-discrete (edition l) 1) [
+          | no o ↦ (Edition, other-edition h (inl o))
+          | yes f ↦ elim (decLe (count l) 256) [
+            | no m ↦ (Edition, other-edition h (inr (omega arith)))
+            | yes m ↦ elim (decLe (contentsSize (count l)) (length l)) [
+              | no s ↦ (Cut, short-entries h f m (omega arith))
+              | yes s ↦ from-entries (record { head = h; first = f; few = m; room = s })
+            ]
+          ]
+        ]
+      ]
+
+  -- Each answer is given exactly when the file has the reason for it.
+  pub file-exactly : (a : FileAnswer) → (fileAnswer (fileTests l) ≡ a) ↔ Reason l a
+  file-exactly a = (
+    (λ e. subst (Reason l) (sym (reason-gives (from-head .1)) ∙ e) (from-head .1)),
+    (λ r. reason-gives r),
+  )
+
+  -- ---- one block out, and the lookup of a row
+
+  -- a file that is refused is refused in front of the last test, and a file that is right leaves it to that test
+  refused-front : (x : FileTest) (a : FileAnswer) → a ≢ Done → Reason l a → fileAnswer (fileTests l ++ (x ∷ [])) ≡ a
+  refused-front x a n r = in-front-refused (fileTests l) (x ∷ []) (λ d. n (sym (reason-gives r) ∙ d)) ∙ reason-gives r
+
+  right-front : (x : FileTest) → Reason l Done → fileAnswer (fileTests l ++ (x ∷ [])) ≡ fileAnswer (x ∷ [])
+  right-front x r = in-front-done (fileTests l) (x ∷ []) (reason-gives r)
+
+  number-there : (n m : ℕ) → n < m → fileAnswer (a-number n m ∷ []) ≡ Done
+  number-there n m h = passed _ _ (lt-ltb n m h) ∙ none-left
+
+  number-beyond : (n m : ℕ) → m ≤ n → fileAnswer (a-number n m ∷ []) ≡ Beyond
+  number-beyond n m h = stopped _ _ (le-ltb n m h)
+
+  -- whether a file is done
+  done-or-not : (a : FileAnswer) → (a ≡ Done) ⊎ (a ≢ Done)
+  done-or-not Done = inl refl
+  done-or-not Block = inr (λ e. apart Block (λ z. omega arith) e)
+  done-or-not Cut = inr (λ e. apart Cut (λ z. omega arith) e)
+  done-or-not Edition = inr (λ e. apart Edition (λ z. omega arith) e)
+  done-or-not (BadEntry p) = inr (λ e. apart (BadEntry p) (λ z. omega arith) e)
+  done-or-not Over = inr (λ e. apart Over (λ z. omega arith) e)
+  done-or-not Beyond = inr (λ e. apart Beyond (λ z. omega arith) e)
+  done-or-not (Runs p) = inr (λ e. apart (Runs p) (λ z. omega arith) e)
+
+  module _ (p : ℕ) where
+    row-gives : {a : FileAnswer} → RowReason l p a → fileAnswer (rowTests l p) ≡ a
+    row-gives (of-file-row a n r) = refused-front (a-number p (rowCount l)) a n r
+    row-gives (no-row r h) = right-front (a-number p (rowCount l)) r ∙ number-beyond p (rowCount l) h
+    row-gives (row-there r h) = right-front (a-number p (rowCount l)) r ∙ number-there p (rowCount l) h
+
+    from-row : (a : FileAnswer) × RowReason l p a
+    from-row =
+        ⊎-elim
+        (λ d. let r : Reason l Done = subst (Reason l) d (from-head .1) in
+        elim (decLt p (rowCount l)) [
+          | yes h ↦ (Done, row-there r h)
+          | no h ↦ (Beyond, no-row r (omega arith))
+        ])
+        (λ n. (from-head .0, of-file-row (from-head .0) n (from-head .1)))
+        (done-or-not (from-head .0))
+
+    -- Each answer of the lookup is given exactly when it has the reason for it.
+    pub row-exactly : (a : FileAnswer) → (fileAnswer (rowTests l p) ≡ a) ↔ RowReason l p a
+    row-exactly a = ((λ e. subst (RowReason l p) (sym (row-gives (from-row .1)) ∙ e) (from-row .1)), (λ r. row-gives r))
+
+  module _ (b : ℕ) (output : List ℕ) where
+    sized : length output ≡ 1024 → fileAnswer (blockTests l b output) ≡ fileAnswer (fileTests l ++ (a-number b (count l) ∷ []))
+    sized e = passed _ _ (eq-eqb (length output) 1024 e)
+
+    block-gives : {a : FileAnswer} → BlockReason l b output a → fileAnswer (blockTests l b output) ≡ a
+    block-gives (bad-output h) = stopped _ _ (ne-eqb (length output) 1024 h)
+    block-gives (of-file-block a e n r) = sized e ∙ refused-front (a-number b (count l)) a n r
+    block-gives (no-block e r h) = sized e ∙ right-front (a-number b (count l)) r ∙ number-beyond b (count l) h
+    block-gives (block-there e r h) = sized e ∙ right-front (a-number b (count l)) r ∙ number-there b (count l) h
+
+    from-block : (a : FileAnswer) × BlockReason l b output a
+    from-block =
+        elim (ℕ-discrete (length output) 1024) [
+          | no h ↦ (Block, bad-output h)
+          | yes e ↦ ⊎-elim
+              (λ d. let r : Reason l Done = subst (Reason l) d (from-head .1) in
+              elim (decLt b (count l)) [
+                | yes h ↦ (Done, block-there e r h)
+                | no h ↦ (Beyond, no-block e r (omega arith))
+              ])
+              (λ n. (from-head .0, of-file-block (from-head .0) e n (from-head .1)))
+              (done-or-not (from-head .0))
+        ]
+
+    -- Each answer of one block out is given exactly when it has the reason for it.
+    pub block-exactly : (a : FileAnswer) → (fileAnswer (blockTests l b output) ≡ a) ↔ BlockReason l b output a
+    block-exactly a = ((λ e. subst (BlockReason l b output) (sym (block-gives (from-block .1)) ∙ e) (from-block .1)), (λ r. block-gives r))

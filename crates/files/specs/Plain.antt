@@ -63,7 +63,7 @@ pub data BlockReason (l : List ℕ) (b : ℕ) (output : List ℕ) : FileAnswer �
   -- 2: the output is not 1,024 long.
   bad-output : length output ≢ 1024 → BlockReason l b output Block
   -- The file has a reason of its own.
-  of-file : (a : FileAnswer) → length output ≡ 1024 → a ≢ Done → Reason l a → BlockReason l b output a
+  of-file-block : (a : FileAnswer) → length output ≡ 1024 → a ≢ Done → Reason l a → BlockReason l b output a
   -- 12: there is no block with this number.
   no-block : length output ≡ 1024 → Reason l Done → count l ≤ b → BlockReason l b output Beyond
   -- 0: nothing of that.
@@ -71,7 +71,9 @@ pub data BlockReason (l : List ℕ) (b : ℕ) (output : List ℕ) : FileAnswer �
 
 -- The lookup of a row has this reason for its answer.
 pub data RowReason (l : List ℕ) (p : ℕ) : FileAnswer → Type 0 where
-  of-file : (a : FileAnswer) → a ≢ Done → Reason l a → RowReason l p a
+  -- The file has a reason of its own.
+  of-file-row : (a : FileAnswer) → a ≢ Done → Reason l a → RowReason l p a
   -- 12: there is no row with this number.
   no-row : Reason l Done → rowCount l ≤ p → RowReason l p Beyond
+  -- 0: nothing of that.
   row-there : Reason l Done → p < rowCount l → RowReason l p Done

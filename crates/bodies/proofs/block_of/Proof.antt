@@ -73,8 +73,7 @@ returns-5 c =
     let e = args .e in
     let body = now (args .body) in
     let output = now (args .output) in
-    let whole : length body ≡ e .length = omega arith in
-    (
+    let whole : length body ≡ e .length = omega arith in (
       out .lay-down .ensures .0 ∙ sym (block-answer e body output (good at) whole (at .before .before .if1 .left)),
       out .lay-down .ensures .1 ∙ sym (block-left e body output (good at) whole (at .before .before .if1 .left)),
     )
