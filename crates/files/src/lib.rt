@@ -78,9 +78,9 @@ fn lay_down(file: &[u8], b: usize, output: &mut [u64])
     bodies::block_of(e, &file[at..end], output);
 }
 
-// Where body b begins, in a file that is right.
+// Where body b begins, in a file whose contents are right.
 fn body_start(file: &[u8], b: usize) -> usize
-    requires { ⌜ fileAnswer (fileTests (now file)) ≡ Done ⌝ }
+    requires { ⌜ fileAnswer (contentsTests (now file) (length (now file))) ≡ Done ⌝ }
     requires { ⌜ b < countIn (now file) ⌝ }
     ensures { λ r. ⌜ r ≡ bodyStart (now (file .entry)) b ⌝ }
 {
