@@ -56,3 +56,14 @@ in-front-refused (x ∷ xs) ys n = go (passes x) refl (in-front-refused xs ys)
 -- After every refusal, that is after every number but 0, a lent buffer holds what it held.
 pub left-refused : {A : Type 0} (a : FileAnswer) (new old : A) → (numberOf a ≡ 0 → ⊥) → left a new old ≡ old
 left-refused a new old h = simp (ne-eqb (numberOf a) 0 h)
+
+-- Done is the answer with number 0.
+pub number-done : (a : FileAnswer) → numberOf a ≡ 0 → a ≡ Done
+number-done Done e = refl
+number-done Block e = absurd (omega arith)
+number-done Cut e = absurd (omega arith)
+number-done Edition e = absurd (omega arith)
+number-done (Entry p) e = absurd (omega arith)
+number-done Over e = absurd (omega arith)
+number-done Beyond e = absurd (omega arith)
+number-done (Runs p) e = absurd (omega arith)

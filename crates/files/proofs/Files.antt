@@ -13,14 +13,14 @@ use Rattle.places.specs.Pick.{pick}
 use Rattle.little.proofs.Little.{little-within}
 use Rattle.contents.specs.declared.FileAnswer.{FileAnswer}
 use Rattle.contents.specs.declared.FileAnswer.the-variants.{Done, Runs}
-use Rattle.contents.specs.Answers.{FileTest, good-runs, fileAnswer, numberOf}
+use Rattle.contents.specs.Answers.{FileTest, good-runs, fileAnswer, numberOf, left}
 use Rattle.contents.specs.Contents.{count, countOr, contentsSize, entryOf, entryOr, isLaidOut, bodies, bodyStart, contentsTests}
 use Rattle.contents.proofs.Accepted.{Whole, accepted, done-first, done-front}
 use Rattle.contents.proofs.Answers.{passed, stopped, none-left}
 use Rattle.contents.proofs.First.{first-only, first-before}
 use Rattle.contents.proofs.Entries.{entry-there, bodies-within}
-use Rattle.bodies.specs.Bodies.{hasGoodRuns, bodyTests}
-use Rattle.files.specs.Files.{bodyOf, badRuns, fileTests}
+use Rattle.bodies.specs.Bodies.{blockOf, hasGoodRuns, bodyTests, blockLeaves}
+use Rattle.files.specs.Files.{bodyOf, blockIn, badRuns, fileTests}
 
 -- The test of one run block, by what it says.
 pub runs-tested : (b : Bool) → fileAnswer (good-runs (pick b 1 0) 1 ∷ []) ≡ pick b Done (Runs 0)
@@ -111,3 +111,13 @@ module _ (l : List ℕ) where
       let last = done-first _ _ (done-front (contentsTests l (length l)) (good-runs (badRuns l) (count l) ∷ []) done .1) .0 in
       let all : badRuns l ≡ count l = eqb-true (badRuns l) (count l) last in
       first-before (count l) (λ i. hasGoodRuns (entryOf l i) (bodyOf l i)) i (omega arith)
+
+  -- Laying block i of a file that is right down leaves it.
+  pub block-left : fileAnswer (fileTests l) ≡ Done → (i : ℕ) → i < count l → (output : List ℕ) → length output ≡ 1024
+      → blockLeaves (entryOf l i) (bodyOf l i) output ≡ blockIn l i
+  unfolding blockLeaves blockIn
+  block-left done i h output e =
+      ap (λ a. left a (blockOf (entryOf l i) (bodyOf l i)) output)
+      (passed _ _ (eq-eqb (length output) 1024 e)
+      ∙ body-tested l (file-contents done) i h
+      ∙ ap (λ b. pick b Done (Runs 0)) (file-runs done i h))
