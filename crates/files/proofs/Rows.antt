@@ -1,0 +1,41 @@
+-- The rows of a file (document 02, Item 1): an accepted file has exactly 1,024 rows for each block, row p is place p mod 1,024 of block p / 1,024,
+-- and the lookup of a row gives what one block out leaves at that place. Then the two worked files of Item 1.
+-- Assumes nothing.
+use mathlib.Core.List.{List, [], _∷_}
+use mathlib.Core.Path.{_≡_, refl, sym, ap, _∙_}
+use Prim.Native.Nat.{ℕ, _+_, _*_, _/_, _%_, _<_}
+use native.Mathlib.Omega.{arith}
+use lib.ListN.{length, getD}
+use Rattle.places.specs.Tab.{tab, tabFrom}
+use Rattle.places.proofs.Tabs.{getD-tab, length-tab}
+use Rattle.contents.specs.declared.FileAnswer.the-variants.{Done}
+use Rattle.contents.specs.Answers.{fileAnswer, left}
+use Rattle.contents.specs.Contents.{count}
+use Rattle.files.specs.declared.Row.the-variants.{Value, Refused}
+use Rattle.files.specs.Files.{blockIn, rowCount, rowAt, rowsOf, fileTests, blockLeaves}
+use Rattle.files.specs.Rows.{rowOf}
+use Rattle.files.proofs.Calls.{row-done, block-done}
+
+module _ (l : List ℕ) where
+  -- A file has 1,024 rows for each of its blocks.
+  pub rows-count : length (rowsOf l) ≡ 1024 * count l
+  unfolding rowsOf
+  rows-count = length-tab (rowCount l) (rowAt l)
+
+  -- Row p is place p mod 1,024 of block p / 1,024.
+  pub row-place : (p : ℕ) → p < 1024 * count l → getD (rowsOf l) p 0 ≡ getD (blockIn l (p / 1024)) (p % 1024) 0
+  unfolding rowsOf rowAt
+  row-place p h = getD-tab (rowCount l) (λ p. getD (blockIn l (p / 1024)) (p % 1024) 0) p 0 h
+
+  -- In an accepted file the lookup of a row gives that row, which is what one block out leaves at its place.
+  pub row-block : fileAnswer (fileTests l) ≡ Done → (p : ℕ) → p < 1024 * count l → (output : List ℕ) → length output ≡ 1024
+      → (rowOf l p ≡ Value (getD (rowsOf l) p 0)) × (rowOf l p ≡ Value (getD (blockLeaves l (p / 1024) output) (p % 1024) 0))
+  unfolding blockLeaves rowAt
+  row-block done p h output e =
+      let b : p / 1024 < count l = omega arith in
+      let looked : rowOf l p ≡ Value (getD (blockIn l (p / 1024)) (p % 1024) 0) = row-done l p done b in (
+        looked ∙ ap Value (sym (row-place p h)),
+        looked
+            ∙ ap (λ a. Value (getD (left a (blockIn l (p / 1024)) output) (p % 1024) 0))
+            (sym (block-done l (p / 1024) output e done b)),
+      )
