@@ -20,7 +20,7 @@ returns c =
     let output = now (args .output) in
     refused e body output (bad-output e body output (c .if1 .taken)) (λ z. omega arith)
 
--- the entry is as laid out
+-- Here the entry is as laid out.
 good : (c : tie.Else2) → isLaidOut (c .before .before .before .before .before .args .e) ≡ true
 good c = sym (c .before .is-laid-out .ensures) ∙ not-false _ (c .if2 .left)
 
@@ -73,8 +73,7 @@ returns-5 c =
     let e = args .e in
     let body = now (args .body) in
     let output = now (args .output) in
-    let whole : length body ≡ e .length = omega arith in
-    (
+    let whole : length body ≡ e .length = omega arith in (
       out .lay-down .ensures .0 ∙ sym (block-answer e body output (good at) whole (at .before .before .if1 .left)),
       out .lay-down .ensures .1 ∙ sym (block-left e body output (good at) whole (at .before .before .if1 .left)),
     )

@@ -11,7 +11,7 @@ use Rattle.bodies.proofs.Bodies.{not-laid, body-cut, body-over, body-wh
 use Rattle.bodies.proofs.check.Statement.{statement}
 use Rattle.bodies.proofs.check.Tie as tie
 
--- the entry is as laid out
+-- Here the entry is as laid out.
 good : (c : tie.Else1) → isLaidOut (c .before .before .before .args .e) ≡ true
 good c = sym (c .before .is-laid-out .ensures) ∙ not-false _ (c .if1 .left)
 

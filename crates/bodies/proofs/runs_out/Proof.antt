@@ -1,7 +1,7 @@
 -- `bodies::runs_out` meets its contract: the part of the array that is lent is as long as there are run values.
 -- Assumes nothing.
 use mathlib.Core.List.{[], _∷_}
-use mathlib.Core.Path.{_≡_, sym, ap, _∙_}
+use mathlib.Core.Path.{sym, ap, _∙_}
 use Prim.Native.Nat.{_+_, _*_}
 use native.Mathlib.Omega.{arith}
 use denote.Ref.{now}
@@ -36,11 +36,10 @@ returns c =
     let through = c .before .before .before .before in
     let start = through .before .before .before .before .before .before in
     let body = now (start .args .body) in
-    let long = lent (start .args .n) (start .pre .0) in
-    (
+    let long = lent (start .args .n) (start .pre .0) in (
       through .runs-through .ensures .0 ∙ ap (λ n. fileAnswer (good-runs (pick (indexed n body) 1 0) 1 ∷ [])) long,
       through .runs-through .ensures .1
-      ∙ ap (λ n. pick (indexed n body) (decodeOf (wordsFrom body 2048 n) (runIndices body)) (now (start .args .output))) long,
+          ∙ ap (λ n. pick (indexed n body) (decodeOf (wordsFrom body 2048 n) (runIndices body)) (now (start .args .output))) long,
     )
 
 pub runs-out-spec : {M : Type 1} → statement M

@@ -1,7 +1,7 @@
 -- `bodies::runs_through` meets its contract: indices and values are read whole, and decode takes them exactly when every index is in range.
 -- Assumes nothing.
 use mathlib.Core.List.{[], _∷_}
-use mathlib.Core.Path.{_≡_, ap, ap₂, _∙_}
+use mathlib.Core.Path.{ap, ap₂, _∙_}
 use denote.Ref.{now}
 use borrow.Author.Needs.{needs}
 use Rattle.places.specs.Answers.{isDone}
@@ -56,12 +56,11 @@ returns c =
     let output = now (args .output) in
     let pre = start .pre in
     let read = ap₂ (λ v x. decodeTakes v x output) (words .read-words .ensures) (pairs .read-pairs .ensures) in
-    let taken = ap isDone (out .decode .ensures .0 ∙ ap answerFor read) ∙ runs-taken body indices values output (pre .0) (pre .1 .0) (pre .1 .1) in
-    (
+    let taken = ap isDone (out .decode .ensures .0 ∙ ap answerFor read) ∙ runs-taken body indices values output (pre .0) (pre .1 .0) (pre .1 .1) in (
       c .runs-answer .ensures ∙ ap (λ b. fileAnswer (good-runs (pick b 1 0) 1 ∷ [])) taken,
       out .decode .ensures .1
-      ∙ ap₂ (λ v x. decodeLeaves v x output) (words .read-words .ensures) (pairs .read-pairs .ensures)
-      ∙ runs-left body indices values output (pre .0) (pre .1 .0) (pre .1 .1),
+          ∙ ap₂ (λ v x. decodeLeaves v x output) (words .read-words .ensures) (pairs .read-pairs .ensures)
+          ∙ runs-left body indices values output (pre .0) (pre .1 .0) (pre .1 .1),
     )
 
 pub runs-through-spec : {M : Type 1} → statement M
