@@ -6,11 +6,11 @@ use mathlib.Core.Path.{_≡_, refl, sym, ap, ap₂, _∙_}
 use Prim.Native.Nat.{ℕ, _+_, _*_, _-_, _≤_, _<_}
 use native.Mathlib.Decide.{decLe}
 use native.Mathlib.Omega.{arith}
-use lib.Dec.{eqb, leb, ltb}
+use lib.Dec.{eqb, ltb}
 use lib.ListN.{length, take, drop, replicate, length-drop}
 use lib.Seq.{take-all, length-take-le}
 use borrow.Author.Tests.{le-leb, lt-leb, lt-ltb, le-ltb, eq-eqb, ne-eqb}
-use Rattle.places.specs.declared.Answer.the-variants.{Done as Taken, Dictionary}
+use Rattle.places.specs.declared.Answer.the-variants.{Done as NoRefusal, Dictionary}
 use Rattle.places.specs.Answers.{isDone, unless}
 use Rattle.places.specs.Pick.{pick}
 use Rattle.places.specs.Search.{firstBeyond}
@@ -38,28 +38,28 @@ use Rattle.contents.proofs.Answers.{passed, stopped, none-left, left-refused}
 use Rattle.contents.proofs.Laid.{laid-packed, laid-frame}
 use Rattle.bodies.specs.Bodies.{wordsFrom, packedFrom, runIndices, runCount, blockOf, indexed, hasGoodRuns, bodyTests, blockTests, blockLeaves}
 
--- As many numbers are read as are asked for.
+-- There are as many numbers as are asked for.
 pub length-numbers : (k : ℕ) (bytes : List ℕ) (n : ℕ) → length (numbersOf k bytes n) ≡ n
 unfolding numbersOf
 length-numbers k bytes n = length-tab n _
 
--- A list of n places that is filled from the front of bytes that are enough holds n numbers of them.
+-- Where there are enough bytes, a list of n places that is read from them holds their first n numbers.
 pub numbers-read : (k : ℕ) (bytes numbers : List ℕ) (n : ℕ) → length numbers ≡ n → k * n ≤ length bytes
     → readLeaves k bytes numbers ≡ numbersOf k bytes n
 numbers-read k bytes numbers n l h = read-all k bytes numbers (rw l h) ∙ ap (numbersOf k bytes) l
 
--- The same for words and the part of a body that begins at byte `at`.
+-- The same holds of words that are read from the part of a body that begins at byte `at`.
 pub words-read : (body words : List ℕ) (at n : ℕ) → length words ≡ n → at + 8 * n ≤ length body
     → readLeaves 8 (take (length body - at) (drop at body)) words ≡ wordsFrom body at n
 words-read body words at n l h =
     let rest : take (length body - at) (drop at body) ≡ drop at body = take-all (length body - at) (drop at body) (omega (arith, length-drop at body)) in
     ap (λ part. readLeaves 8 part words) rest ∙ numbers-read 8 (drop at body) words n l (omega (arith, length-drop at body))
 
--- The first n places of an array of 1,024 zeros are n places.
+-- The part of an array of 1,024 zeros that ends before place n has n places.
 pub lent : (n : ℕ) → n ≤ 1024 → length (take n (replicate {A = ℕ} 1024 0)) ≡ n
 lent n h = length-take-le n (replicate 1024 0) h
 
--- An entry of kind 0 or 1 that is as laid out says this of its width and its length.
+-- An entry of kind 0 or 1 that is as laid out has a width of at most 64, and the length that it asks for.
 pub laid-plain : (e : Entry) → isLaidOut e ≡ true → e .kind < 2 → (e .width ≤ 64) × (e .length ≡ 128 * e .width)
 laid-plain e good k =
     elim (decLe (e .kind) 0) [
@@ -67,7 +67,7 @@ laid-plain e good k =
       | no h ↦ laid-frame e good (omega arith)
     ]
 
--- The block by its kind.
+-- The kind says what the block is.
 module _ (e : Entry) (body : List ℕ) where
   block-packed : e .kind ≡ 0 → blockOf e body ≡ unpackOf t64 (e .width) (packedFrom body 0 (e .width))
   unfolding blockOf
@@ -86,7 +86,7 @@ module _ (e : Entry) (body : List ℕ) where
   unfolding blockOf
   block-runs k = rw k
 
-  -- The words of a packed body and of a frame, unpacked, are the block.
+  -- The words of a packed body or of a frame are read whole, and unpacked they are the block.
   module _ (words output : List ℕ) (w : e .width ≤ 64) (b : length body ≡ 128 * e .width) (l : length words ≡ 16 * e .width) (o : length output ≡ 1024) where
     packed-read : readLeaves 8 body words ≡ packedFrom body 0 (e .width)
     packed-read = numbers-read 8 body words (16 * e .width) l (omega arith)
@@ -103,7 +103,7 @@ module _ (e : Entry) (body : List ℕ) where
         ∙ unfor-pack-leaves t64 (e .width) output (packedFrom body 0 (e .width)) w o (length-numbers 8 body (16 * e .width)) (e .reference)
         ∙ sym (block-frame k)
 
--- The base words and the differences of a body of differences, summed up, are the block.
+-- The base words and the packed differences are read whole, and summed up they are the block.
 pub differences-left : (w : ℕ) (body base words output : List ℕ) → w ≤ 64 → length body ≡ 128 + 128 * w → length base ≡ 16
     → length words ≡ 16 * w → length output ≡ 1024
     → undeltaPackLeaves t64 w output (readLeaves 8 (take (length body - 128) (drop 128 body)) words) (readLeaves 8 body base)
@@ -123,11 +123,12 @@ indexed-high n body =
       | no h ↦ eq-eqb (firstBeyond n xs) 1024 (same .0 (omega arith) ∙ long) ∙ sym (lt-ltb (highestOf xs) n (omega arith))
     ]
 
--- Decode takes the run values and the run indices of a body exactly when every run index is below the number of the values.
-done-only : (b : Bool) (p : ℕ) → isDone (unless b (Dictionary p) Taken) ≡ b
+-- Where one test is left, the call is done exactly when it passes.
+done-only : (b : Bool) (p : ℕ) → isDone (unless b (Dictionary p) NoRefusal) ≡ b
 done-only true p = refl
 done-only false p = refl
 
+-- Run values and run indices are read whole, and decode is done with them exactly when every run index is below the number of the values.
 module _ (body indices values output : List ℕ) (b : length body ≡ 2048 + 8 * length values) (i : length indices ≡ 1024) (o : length output ≡ 1024) where
   values-read : readLeaves 8 (take (length body - 2048) (drop 2048 body)) values ≡ wordsFrom body 2048 (length values)
   values-read = words-read body values 2048 (length values) refl (omega arith)
@@ -155,33 +156,35 @@ module _ (body indices values output : List ℕ) (b : length body ≡ 2048 + 8 *
       ap₂ (λ v x. decodeLeaves v x output) values-read indices-read
       ∙ ap (λ d. pick d (decodeOf (wordsFrom body 2048 (length values)) (runIndices body)) output) indices-taken
 
--- The last test, of the run indices, by what they are: what is answered, and what is left in an output.
-runs-answer : (b : Bool) → fileAnswer (good-runs (pick b 1 0) 1 ∷ []) ≡ pick b Done (Runs 0)
-runs-answer true = passed (good-runs 1 1) [] refl ∙ none-left
-runs-answer false = stopped (good-runs 0 1) [] refl
+-- The last test is that of the run indices. Where they are good the answer is done, and where they are not it is a refusal.
+last-answer : (b : Bool) → fileAnswer (good-runs (pick b 1 0) 1 ∷ []) ≡ pick b Done (Runs 0)
+last-answer true = passed (good-runs 1 1) [] refl ∙ none-left
+last-answer false = stopped (good-runs 0 1) [] refl
 
 pub runs-done : {b : Bool} → b ≡ true → Done ≡ fileAnswer (good-runs (pick b 1 0) 1 ∷ [])
-runs-done {b} h = sym (runs-answer b ∙ ap (λ x. pick x Done (Runs 0)) h)
+runs-done {b} h = sym (last-answer b ∙ ap (λ x. pick x Done (Runs 0)) h)
 
 pub runs-bad : {b : Bool} → b ≡ false → Runs 0 ≡ fileAnswer (good-runs (pick b 1 0) 1 ∷ [])
-runs-bad {b} h = sym (runs-answer b ∙ ap (λ x. pick x Done (Runs 0)) h)
+runs-bad {b} h = sym (last-answer b ∙ ap (λ x. pick x Done (Runs 0)) h)
 
-answer-left : (b : Bool) (new old : List ℕ) → left (fileAnswer (good-runs (pick b 1 0) 1 ∷ [])) new old ≡ pick b new old
-answer-left true new old = ap (λ a. left a new old) (runs-answer true)
-answer-left false new old = ap (λ a. left a new old) (runs-answer false)
+-- So an output is left as the run indices say.
+last-left : (b : Bool) (new old : List ℕ) → left (fileAnswer (good-runs (pick b 1 0) 1 ∷ [])) new old ≡ pick b new old
+last-left true new old = ap (λ a. left a new old) (last-answer true)
+last-left false new old = ap (λ a. left a new old) (last-answer false)
 
--- The tests of a body, one by one.
+-- The tests of a body go one by one.
 module _ (e : Entry) (body : List ℕ) where
-  -- a body of another kind than 3 has no run indices
+  -- A body of another kind than 3 has no run indices,
   pub other-runs : (e .kind ≡ 3 → ⊥) → hasGoodRuns e body ≡ true
   unfolding hasGoodRuns
   other-runs k = simp (ne-eqb (e .kind) 3 k)
 
-  -- so it is done when its block is laid down
+  -- so the call is done when its block is laid down.
   pub other-done : (new output : List ℕ) → (e .kind ≡ 3 → ⊥) → new ≡ blockOf e body
       → (Done ≡ fileAnswer (good-runs (pick (hasGoodRuns e body) 1 0) 1 ∷ [])) × (new ≡ pick (hasGoodRuns e body) (blockOf e body) output)
   other-done new output k h = (runs-done (other-runs k), h ∙ sym (ap (λ b. pick b (blockOf e body) output) (other-runs k)))
 
+  -- In a body of runs every index is looked at.
   pub runs-runs : e .kind ≡ 3 → hasGoodRuns e body ≡ indexed (runCount e) body
   unfolding hasGoodRuns
   runs-runs k = simp (eq-eqb (e .kind) 3 k)
@@ -209,7 +212,7 @@ module _ (e : Entry) (body : List ℕ) where
         ∙ passed _ _ (le-leb (e .length) (length body) (omega arith))
         ∙ passed _ _ (le-leb (length body) (e .length) (omega arith))
 
-  -- With an output, its length is tested first; after a refusal it holds what it held.
+  -- The length of an output is tested first, and after a refusal the output holds what it held.
   module _ (output : List ℕ) where
     pub bad-output : (length output ≡ 1024 → ⊥) → fileAnswer (blockTests e body output) ≡ Block
     bad-output h = stopped _ _ (ne-eqb (length output) 1024 h)
@@ -229,4 +232,4 @@ module _ (e : Entry) (body : List ℕ) where
 
       pub block-left : blockLeaves e body output ≡ pick (hasGoodRuns e body) (blockOf e body) output
       unfolding blockLeaves
-      block-left = ap (λ a. left a (blockOf e body) output) block-answer ∙ answer-left (hasGoodRuns e body) (blockOf e body) output
+      block-left = ap (λ a. left a (blockOf e body) output) block-answer ∙ last-left (hasGoodRuns e body) (blockOf e body) output

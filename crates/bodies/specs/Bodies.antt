@@ -2,10 +2,10 @@
 -- sixteen base words and packed differences, kind 3 run indices and run values. Then what is tested of a body.
 -- Assumes nothing.
 use mathlib.Core.Bool.{Bool, true}
-use mathlib.Core.List.{List, [], _∷_, _++_}
+use mathlib.Core.List.{List, [], _∷_}
 use Prim.Native.Nat.{ℕ, _*_, _-_, _/_}
 use lib.Dec.{eqb}
-use lib.ListN.{length, getD, drop}
+use lib.ListN.{length, drop}
 use Rattle.places.specs.Pick.{pick}
 use Rattle.places.specs.Search.{firstBeyond}
 use Rattle.places.specs.Sizes.{t64, lanes}
@@ -14,8 +14,7 @@ use Rattle.deltas.specs.Deltas.{unforPackOf, undeltaPackOf}
 use Rattle.runs.specs.Runs.{decodeOf}
 use Rattle.little.specs.Little.{numbersOf}
 use Rattle.contents.specs.declared.Entry.{Entry}
-use Rattle.contents.specs.declared.FileAnswer.{FileAnswer}
-use Rattle.contents.specs.Answers.{FileTest, a-block, enough, laid-out, an-end, good-runs, a-number, fileAnswer, isDone, left}
+use Rattle.contents.specs.Answers.{FileTest, a-block, enough, laid-out, an-end, good-runs, fileAnswer, left}
 use Rattle.contents.specs.Contents.{isLaidOut}
 
 -- These are the n words of eight bytes each that stand in the body from byte `at` on.

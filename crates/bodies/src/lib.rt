@@ -21,7 +21,7 @@ ghost use Rattle.places.specs.Sizes.{t64, lanes};
 ghost use Rattle.deltas.specs.Deltas.{undeltaPackOf};
 ghost use Rattle.runs.specs.Highest.{highestOf};
 ghost use Rattle.runs.specs.Runs.{decodeOf};
-ghost use Rattle.contents.specs.Answers.{good-runs, fileAnswer};
+ghost use Rattle.contents.specs.Answers.{good-runs, fileAnswer, numberOf};
 ghost use Rattle.contents.specs.Contents.{isLaidOut};
 ghost use Rattle.bodies.specs.Bodies.{runIndices, wordsFrom, packedFrom, blockOf, indexed, hasGoodRuns, bodyTests, blockTests, blockLeaves};
 
@@ -29,15 +29,9 @@ ghost use Rattle.bodies.specs.Bodies.{runIndices, wordsFrom, packedFrom,
 pub fn check(e: Entry, body: &[u8]) -> FileAnswer
     ensures { λ r. ⌜ r ≡ fileAnswer (bodyTests e (now (body .entry))) ⌝ }
 {
-    if !e.is_laid_out() {
-        return FileAnswer::Entry(0);
-    }
-    let size = e.length as usize;
-    if body.len() < size {
-        return FileAnswer::Cut;
-    }
-    if size < body.len() {
-        return FileAnswer::Over;
+    let answer = check_length(e, body);
+    if answer.number() != 0 {
+        return answer;
     }
     if !has_good_runs(e, body) {
         return FileAnswer::Runs(0);
@@ -53,6 +47,18 @@ pub fn block_of(e: Entry, body: &[u8], output: &mut [u64]) -> FileAnswer
     if output.len() != 1024 {
         return FileAnswer::Block;
     }
+    let answer = check_length(e, body);
+    if answer.number() != 0 {
+        return answer;
+    }
+    lay_down(e, body, output)
+}
+
+// Whether the entry is as laid out and the body as long as it says. After this only the run indices are left to test.
+fn check_length(e: Entry, body: &[u8]) -> FileAnswer
+    ensures { λ r. ⌜ ((numberOf r ≡ 0 → ⊥) → r ≡ fileAnswer (bodyTests e (now (body .entry)))) ⌝ }
+    ensures { λ r. ⌜ (numberOf r ≡ 0 → (isLaidOut e ≡ true) × (length (now (body .entry)) ≡ e .length)) ⌝ }
+{
     if !e.is_laid_out() {
         return FileAnswer::Entry(0);
     }
@@ -63,7 +69,7 @@ pub fn block_of(e: Entry, body: &[u8], output: &mut [u64]) -> FileAnswer
     if size < body.len() {
         return FileAnswer::Over;
     }
-    lay_down(e, body, output)
+    FileAnswer::Done
 }
 
 // Whether every run index is in range, in a body of as many bytes as its entry says.

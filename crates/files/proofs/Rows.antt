@@ -2,17 +2,24 @@
 -- and the lookup of a row gives what one block out leaves at that place. Then the two worked files of Item 1.
 -- Assumes nothing.
 use mathlib.Core.List.{List, [], _∷_}
-use mathlib.Core.Path.{_≡_, refl, sym, ap, _∙_}
-use Prim.Native.Nat.{ℕ, _+_, _*_, _/_, _%_, _<_}
+use mathlib.Core.Path.{_≡_, refl, sym, ap, ap₂, _∙_}
+use Prim.Native.Nat.{ℕ, _+_, _*_, _/_, _%_, _^_, _<_}
 use native.Mathlib.Omega.{arith}
 use lib.ListN.{length, getD}
+use Rattle.places.specs.Numbers.{plus}
+use Rattle.places.specs.Sizes.{t64}
 use Rattle.places.specs.Tab.{tab, tabFrom}
 use Rattle.places.proofs.Tabs.{getD-tab, length-tab}
+use Rattle.packing.proofs.Rounds.{value-zero}
+use Rattle.deltas.specs.Deltas.{unforPackOf}
+use Rattle.little.specs.Little.{little}
 use Rattle.contents.specs.declared.FileAnswer.the-variants.{Done}
 use Rattle.contents.specs.Answers.{fileAnswer, left}
-use Rattle.contents.specs.Contents.{count}
+use Rattle.contents.specs.Contents.{count, entryOf, isOfKind, isLaidOut, badEntry, bodies, bodyStart}
+use Rattle.contents.specs.First.{firstFrom, firstBad}
+use Rattle.bodies.specs.Bodies.{blockOf, hasGoodRuns}
 use Rattle.files.specs.declared.Row.the-variants.{Value, Refused}
-use Rattle.files.specs.Files.{blockIn, rowCount, rowAt, rowsOf, fileTests, blockLeaves}
+use Rattle.files.specs.Files.{badRuns, blockIn, rowCount, rowAt, rowsOf, fileTests, blockLeaves}
 use Rattle.files.specs.Rows.{rowOf}
 use Rattle.files.proofs.Calls.{row-done, block-done}
 
@@ -39,3 +46,37 @@ module _ (l : List ℕ) where
             ∙ ap (λ a. Value (getD (left a (blockIn l (p / 1024)) output) (p % 1024) 0))
             (sym (block-done l (p / 1024) output e done b)),
       )
+
+-- ---- the worked files
+
+-- No blocks: 01 00 00 00.
+abbrev pub noBlocks : List ℕ
+noBlocks = 1 ∷ 0 ∷ 0 ∷ 0 ∷ []
+
+-- One block of sevens, kind 1, width 0: 01 00 01 00, 01 00 00 00 00 00 00 00, 07 and seven zeros.
+abbrev pub oneOfSevens : List ℕ
+oneOfSevens = 1 ∷ 0 ∷ 1 ∷ 0 ∷ 1 ∷ 0 ∷ 0 ∷ 0 ∷ 0 ∷ 0 ∷ 0 ∷ 0 ∷ 7 ∷ 0 ∷ 0 ∷ 0 ∷ 0 ∷ 0 ∷ 0 ∷ 0 ∷ []
+
+-- Both are accepted.
+pub worked-accepted : (fileAnswer (fileTests noBlocks) ≡ Done) × (fileAnswer (fileTests oneOfSevens) ≡ Done)
+unfolding fileAnswer little badEntry badRuns firstBad firstFrom isLaidOut isOfKind entryOf bodyStart bodies hasGoodRuns
+worked-accepted = (refl, refl)
+
+-- The first has no rows,
+pub worked-none : rowsOf noBlocks ≡ []
+unfolding rowsOf tab tabFrom little
+worked-none = refl
+
+-- and every row of the second is 7.
+pub worked-sevens : (length (rowsOf oneOfSevens) ≡ 1024) × ((p : ℕ) → p < 1024 → getD (rowsOf oneOfSevens) p 0 ≡ 7)
+unfolding little blockIn blockOf entryOf unforPackOf plus
+worked-sevens = (
+  rows-count oneOfSevens,
+  λ p h.
+      let b : p / 1024 ≡ 0 = omega arith in
+      let m : p % 1024 ≡ p = omega arith in
+      row-place oneOfSevens p (omega arith)
+      ∙ ap₂ (λ b m. getD (blockIn oneOfSevens b) m 0) b m
+      ∙ getD-tab 1024 _ p 0 h
+      ∙ ap (λ v. (v + 7) % 2 ^ 64) (value-zero t64 _ p),
+)

@@ -1,6 +1,6 @@
 -- `bodies::differences_through` meets its contract: base and differences are read whole, and summed up they are the block.
 -- Assumes nothing.
-use mathlib.Core.Path.{_≡_, ap₂, _∙_}
+use mathlib.Core.Path.{ap₂, _∙_}
 use denote.Ref.{now}
 use borrow.Author.Needs.{needs}
 use Rattle.places.specs.Sizes.{t64}
@@ -46,7 +46,8 @@ returns c =
     let pre = start .pre in
     out .undelta-pack .ensures .1
     ∙ ap₂ (undeltaPackLeaves t64 (args .width) (now (args .output))) (words .read-words2 .ensures) (base .read-words .ensures)
-    ∙ differences-left (args .width) (now (args .body)) (now (args .base)) (now (args .words)) (now (args .output)) (pre .0) (pre .1 .0) (pre .1 .1 .0) (pre .1 .1 .1 .0) (pre .1 .1 .1 .1)
+    ∙ differences-left (args .width) (now (args .body)) (now (args .base)) (now (args .words)) (now (args .output))
+    (pre .0) (pre .1 .0) (pre .1 .1 .0) (pre .1 .1 .1 .0) (pre .1 .1 .1 .1)
 
 pub differences-through-spec : {M : Type 1} → statement M
 differences-through-spec =

@@ -1,6 +1,6 @@
 -- `bodies::has_good_runs` meets its contract: a body of another kind has no run indices, and else the highest one is looked at.
 -- Assumes nothing.
-use mathlib.Core.Path.{_≡_, sym, ap, _∙_}
+use mathlib.Core.Path.{sym, ap, _∙_}
 use native.Mathlib.Omega.{arith}
 use denote.Ref.{now}
 use lib.Dec.{ltb}

@@ -1,10 +1,10 @@
--- `bodies::lay_down` meets its contract, kind by kind.
+-- `bodies::lay_down` meets its contract: each kind has its block, and only a body of runs can still be refused.
 -- Assumes nothing.
-use mathlib.Core.Path.{_≡_, sym, ap, ap₂, _∙_}
+use mathlib.Core.List.{[], _∷_}
+use mathlib.Core.Path.{sym, ap, ap₂, _∙_}
 use Prim.Native.Nat.{_<_}
 use native.Mathlib.Omega.{arith}
 use denote.Ref.{now}
-use mathlib.Core.List.{[], _∷_}
 use borrow.Author.Needs.{needs}
 use Rattle.places.specs.Pick.{pick}
 use Rattle.contents.specs.Answers.{good-runs, fileAnswer}
@@ -68,7 +68,10 @@ returns-2 c =
     let e = args .e in
     let body = now (args .body) in
     let runs = sym (runs-runs e body (arm .match .keys2)) in
-    (out .runs-out .ensures .0 ∙ ap (λ b. fileAnswer (good-runs (pick b 1 0) 1 ∷ [])) runs, out .runs-out .ensures .1 ∙ ap₂ (λ b l. pick b l (now (args .output))) runs (sym (block-runs e body (arm .match .keys2))))
+    let block = sym (block-runs e body (arm .match .keys2)) in (
+      out .runs-out .ensures .0 ∙ ap (λ b. fileAnswer (good-runs (pick b 1 0) 1 ∷ [])) runs,
+      out .runs-out .ensures .1 ∙ ap₂ (λ b l. pick b l (now (args .output))) runs block,
+    )
 
 same-length-3 : tie.Need-same-length-3
 same-length-3 c = search needs

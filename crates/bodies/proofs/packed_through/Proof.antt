@@ -1,6 +1,6 @@
 -- `bodies::packed_through` meets its contract: the words are read whole, and unpacked they are the block.
 -- Assumes nothing.
-use mathlib.Core.Path.{_≡_, ap, _∙_}
+use mathlib.Core.Path.{ap, _∙_}
 use native.Mathlib.Omega.{arith}
 use denote.Ref.{now}
 use borrow.Author.Needs.{needs}
@@ -39,9 +39,11 @@ returns c =
     let words = arm .before .before .before .before in
     let start = words .before .before .before .before .before in
     let args = start .args in
+    let pre = start .pre in
     out .unpack .ensures .1
     ∙ ap (unpackLeaves t64 (args .e .width) (now (args .output))) (words .read-words .ensures)
-    ∙ packed-left (args .e) (now (args .body)) (now (args .words)) (now (args .output)) (start .pre .0 .1) (start .pre .1 .0) (start .pre .1 .1 .0) (start .pre .1 .1 .1) (arm .if1 .taken)
+    ∙ packed-left (args .e) (now (args .body)) (now (args .words)) (now (args .output)) (pre .0 .1) (pre .1 .0) (pre .1 .1 .0) (pre .1 .1 .1)
+    (arm .if1 .taken)
 
 same-length-3 : tie.Need-same-length-3
 same-length-3 c = search needs
@@ -56,9 +58,11 @@ returns-2 c =
     let words = arm .before .before .before .before in
     let start = words .before .before .before .before .before in
     let args = start .args in
+    let pre = start .pre in
     out .unfor-pack .ensures .1
     ∙ ap (λ x. unforPackLeaves t64 (args .e .width) (now (args .output)) x (args .e .reference)) (words .read-words .ensures)
-    ∙ frame-left (args .e) (now (args .body)) (now (args .words)) (now (args .output)) (start .pre .0 .1) (start .pre .1 .0) (start .pre .1 .1 .0) (start .pre .1 .1 .1) (omega arith)
+    ∙ frame-left (args .e) (now (args .body)) (now (args .words)) (now (args .output)) (pre .0 .1) (pre .1 .0) (pre .1 .1 .0) (pre .1 .1 .1)
+    (omega arith)
 
 pub packed-through-spec : {M : Type 1} → statement M
 packed-through-spec =

@@ -1,9 +1,8 @@
 -- `bodies::runs_answer` meets its contract: an answer is done exactly when its number is 0.
 -- Assumes nothing.
-use mathlib.Core.Path.{_≡_, sym, _∙_}
+use mathlib.Core.Path.{sym, _∙_}
 use borrow.Author.Tests.{eq-eqb, ne-eqb}
 use borrow.Author.Needs.{needs}
-use Rattle.places.specs.Answers.{numberOf}
 use Rattle.bodies.proofs.Bodies.{runs-done, runs-bad}
 use Rattle.bodies.proofs.runs_answer.Statement.{statement}
 use Rattle.bodies.proofs.runs_answer.Tie as tie

@@ -1,7 +1,7 @@
 -- `bodies::runs_through` meets its contract: indices and values are read whole, and decode takes them exactly when every index is in range.
 -- Assumes nothing.
 use mathlib.Core.List.{[], _∷_}
-use mathlib.Core.Path.{_≡_, ap, ap₂, _∙_}
+use mathlib.Core.Path.{ap, ap₂, _∙_}
 use denote.Ref.{now}
 use borrow.Author.Needs.{needs}
 use Rattle.places.specs.Answers.{isDone}
