@@ -166,16 +166,20 @@ pub fn same_numbers(x: &[u64], y: &[u64], n: usize) -> bool
     true
 }
 
-// Whether the numbers are those of eight bytes each that stand from the front of the bytes on; no, where there are too few bytes.
-pub fn same_words(words: &[u64], bytes: &[u8]) -> bool
-    ensures { λ r. ⌜ (r ≡ true → (8 * length (now (words .entry)) ≤ length (now (bytes .entry))) × (now (words .entry) ≡ numbersOf 8 (now (bytes .entry)) (length (now (words .entry))))) ⌝ }
-    ensures { λ r. ⌜ (8 * length (now (words .entry)) ≤ length (now (bytes .entry)) → now (words .entry) ≡ numbersOf 8 (now (bytes .entry)) (length (now (words .entry))) → r ≡ true) ⌝ }
+// Whether the first n numbers are those of eight bytes each that stand from the front of the bytes on; no, where there are
+// not so many.
+pub fn same_words(words: &[u64], bytes: &[u8], n: usize) -> bool
+    ensures { λ r. ⌜ (r ≡ true → (n ≤ length (now (words .entry))) × (8 * n ≤ length (now (bytes .entry))) × Agree n (now (words .entry)) (numbersOf 8 (now (bytes .entry)) n)) ⌝ }
+    ensures { λ r. ⌜ (n ≤ length (now (words .entry)) → 8 * n ≤ length (now (bytes .entry)) → Agree n (now (words .entry)) (numbersOf 8 (now (bytes .entry)) n) → r ≡ true) ⌝ }
 {
-    if bytes.len() / 8 < words.len() {
+    if words.len() < n {
+        return false;
+    }
+    if bytes.len() / 8 < n {
         return false;
     }
     let mut i = 0;
-    while i < words.len() {
+    while i < n {
         if words[i] != word(bytes, i * 8) {
             return false;
         }
