@@ -1,0 +1,83 @@
+// The calls: what each takes, and how it is made. A call has a line in `takes` and a line in `call`.
+use contents::FileAnswer;
+use files::Row;
+use stream::Head;
+use stream::Reply;
+ghost use mathlib.Core.Path.{_≡_};
+ghost use Rattle.contents.specs.Answers.{numberOf, placeOf};
+ghost use Rattle.stream.specs.declared.Reply.the-variants.{Given};
+
+// What a call takes: for each buffer the bytes of an element, 0 where it takes no such buffer, and whether it takes an index.
+struct Intake {
+    a: usize,
+    b: usize,
+    c: usize,
+    index: bool,
+}
+
+impl Intake {
+    fn of(a: usize, b: usize, c: usize, index: bool) -> Self {
+        Self { a, b, c, index }
+    }
+}
+
+// A call that is not made here takes nothing.
+fn takes(op: u8) -> Intake {
+    match op {
+        16 => Intake::of(1, 0, 0, false),
+        17 => Intake::of(1, 0, 8, true),
+        18 => Intake::of(1, 0, 0, true),
+        _ => Intake::of(0, 0, 0, false),
+    }
+}
+
+// Whether a record can have this head.
+pub fn is_possible(head: Head) -> bool {
+    let takes = takes(head.op);
+    head.t == 64
+        && head.width == 0
+        && head.zero == 0
+        && (takes.index || head.index == 0)
+        && fits(head.n_a, takes.a)
+        && fits(head.n_b, takes.b)
+        && fits(head.n_c, takes.c)
+        && head.n_d == 0
+}
+
+// Whether a buffer can have n elements of this size: at most 2,200,000 bytes, and none of an element without size.
+fn fits(n: usize, size: usize) -> bool {
+    match size {
+        0 => n == 0,
+        1 => n <= 2_200_000,
+        _ => n <= 275_000,
+    }
+}
+
+// Makes the call on the buffers that it takes. Where there is no such call, nothing is given back.
+pub fn call(head: Head, a: &[u8], c: &mut [u64]) -> Reply {
+    let op = head.op;
+    let index = head.index as usize;
+    match op {
+        16 => reply(files::check(a), 0),
+        17 => reply(files::block_out(a, index, c), 0),
+        18 => of_row(files::row_at(a, index)),
+        _ => Reply::Unknown,
+    }
+}
+
+// The reply of a call on a file. There is no count to give back as a reference yet.
+fn reply(answer: FileAnswer, value: u64) -> Reply
+    ensures { λ r. ⌜ r ≡ Given (numberOf answer) (placeOf answer) value 0 ⌝ }
+{
+    Reply::Given {
+        number: answer.number() as u64,
+        place: answer.place() as u64,
+        value,
+        reference: 0,
+    }
+}
+
+// Of a refused lookup the value is 0.
+fn of_row(row: Row) -> Reply {
+    reply(row.answer(), row.value())
+}

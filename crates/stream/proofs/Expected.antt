@@ -1,0 +1,53 @@
+-- A case comes to Same exactly where its call gave back what the head says and its buffers were left as expected.
+-- Assumes nothing.
+use mathlib.Core.Bool.{Bool, true, false}
+use mathlib.Core.Path.{_≡_, refl}
+use native.Mathlib.Omega.{arith}
+use Prim.Native.Nat.{ℕ}
+use borrow.Author.Tests.{eqb-true, eq-eqb}
+use Rattle.places.specs.Pick.{pick}
+use Rattle.places.proofs.Tests.{both-true}
+use Rattle.stream.specs.declared.Head.{Head}
+use Rattle.stream.specs.declared.Reply.{Reply}
+use Rattle.stream.specs.declared.Reply.the-variants.{Unknown, Given}
+use Rattle.stream.specs.declared.Step.{Step}
+use Rattle.stream.specs.declared.Step.the-variants.{Bad, Same, Differs}
+use Rattle.stream.specs.Expected.{GivenAsExpected, isAsExpected, stepOf}
+
+bad : {X : Type 0} → Bad ≡ Same → X
+bad e = let z : _≡_ {A = ℕ} 0 1 = cc in absurd (omega arith)
+
+-- the test behind Same
+tested : (head : Head) (test : Bool) → pick test Same (Differs head) ≡ Same → test ≡ true
+tested head true e = refl
+tested head false e = let z : _≡_ {A = ℕ} 0 1 = cc in absurd (omega arith)
+
+module _ (head : Head) where
+  -- where a case is the same, all of it is as expected
+  pub step-same : (reply : Reply) (buffers : Bool) → stepOf head reply buffers ≡ Same → GivenAsExpected head reply × (buffers ≡ true)
+  step-same Unknown buffers e = bad e
+  step-same (Given number place value reference) buffers e =
+      let all = both-true (isAsExpected head number place value reference) buffers (tested head _ e) in
+      let from-number = both-true _ _ (all .0) in
+      let from-place = both-true _ _ (from-number .1) in
+      let from-value = both-true _ _ (from-place .1) in (
+        (
+          eqb-true number (head .number) (from-number .0),
+          eqb-true place (head .place) (from-place .0),
+          eqb-true value (head .value) (from-value .0),
+          eqb-true reference (head .reference) (from-value .1),
+        ),
+        all .1,
+      )
+
+  -- and back
+  pub same-step : (reply : Reply) (buffers : Bool) → GivenAsExpected head reply → buffers ≡ true → stepOf head reply buffers ≡ Same
+  same-step Unknown buffers given left = absurd given
+  same-step (Given number place value reference) buffers given left =
+      simp (
+        eq-eqb number (head .number) (given .0),
+        eq-eqb place (head .place) (given .1),
+        eq-eqb value (head .value) (given .2),
+        eq-eqb reference (head .reference) (given .3),
+        left,
+      )

@@ -1,0 +1,95 @@
+-- `stream::same_words` meets its contract. The loop's invariant: the first i numbers are those of the bytes.
+-- Assumes nothing.
+use mathlib.Core.Path.{_≡_, refl, sym, _∙_}
+use mathlib.Core.Bool.{false≢true}
+use mathlib.Core.List.{List}
+use Prim.Native.Nat.{ℕ, _-_, _*_, _≤_, _<_, zero-le}
+use native.Mathlib.Omega.{arith}
+use denote.Ref.{now}
+use lib.ListN.{getD}
+use borrow.Author.Needs.{needs}
+use borrow.Author.Count.{below-none, below-more}
+use Rattle.places.proofs.Tabs.{getD-tab}
+use Rattle.little.specs.Little.{little, numbersOf}
+use Rattle.little.proofs.Little.{little-within}
+use Rattle.stream.proofs.same_words.Statement.{statement}
+use Rattle.stream.proofs.same_words.Tie as tie
+
+-- one of the numbers that the bytes hold
+number-at : (bytes : List ℕ) (n k : ℕ) → k < n → getD (numbersOf 8 bytes n) k 0 ≡ little bytes (k * 8) 8
+unfolding numbersOf
+number-at bytes n k h = getD-tab n (λ i. little bytes (i * 8) 8) k 0 h
+
+abbrev Inv-loop : tie.InvT-loop
+Inv-loop words bytes n i₀ i = (i ≤ n) × ((k : ℕ) → k < i → getD words k 0 ≡ little bytes (k * 8) 8)
+
+abbrev μ-loop : tie.MeasureT-loop
+μ-loop words bytes n i₀ i = n - i
+
+returns : tie.Need-returns Inv-loop μ-loop
+returns c = (λ h. absurd (false≢true h), λ w b a. absurd (omega arith))
+
+returns-2 : tie.Need-returns-2 Inv-loop μ-loop
+returns-2 c = (λ h. absurd (false≢true h), λ w b a. absurd (omega arith))
+
+loop-holds : tie.Need-loop-holds Inv-loop μ-loop
+loop-holds c = (zero-le, below-none _)
+
+mul-if3 : tie.Need-mul-if3 Inv-loop μ-loop
+mul-if3 c = search needs
+
+shared-slice-read-if3 : tie.Need-shared-slice-read-if3 Inv-loop μ-loop
+shared-slice-read-if3 c = search needs
+
+mul-word : tie.Need-mul-word Inv-loop μ-loop
+mul-word c = search needs
+
+word-requires : tie.Need-word-requires Inv-loop μ-loop
+word-requires c κs = search needs
+
+-- the number that a turn reads from the bytes
+read : (c : tie.After-word Inv-loop μ-loop)
+    → c .word .result ≡ little (now (c .before .before .before .before .before .before .before .before .args .bytes)) (c .before .before .before .loop .i * 8) 8
+read c = c .word .ensures ∙ little-within _ _ 8 (omega arith)
+
+returns-3 : tie.Need-returns-3 Inv-loop μ-loop
+returns-3 c = (λ h. absurd (false≢true h), λ w b a. absurd (c .if3 .taken (a _ (omega arith) ∙ number-at _ _ _ (omega arith) ∙ sym (read (c .before)))))
+
+add-i : tie.Need-add-i Inv-loop μ-loop
+add-i c = search needs
+
+loop-less : tie.Need-loop-less Inv-loop μ-loop
+loop-less c = search needs
+
+loop-again : tie.Need-loop-again Inv-loop μ-loop
+loop-again c = (omega arith, below-more _ _ (c .before .before .before .before .loop .inv .1) (c .if3 .left ∙ read (c .before)))
+
+returns-4 : tie.Need-returns-4 Inv-loop μ-loop
+returns-4 c =
+    let e : c .before .loop .i ≡ c .before .before .before .before .before .before .args .n = omega arith in (
+      (λ h. (
+        omega arith,
+        omega arith,
+        λ k b. c .before .loop .inv .1 k (omega arith) ∙ sym (number-at _ _ k b),
+      )),
+      (λ w b a. refl),
+    )
+
+pub same-words-spec : {M : Type 1} → statement M
+same-words-spec =
+    tie.close
+    (tie.spec
+    Inv-loop
+    μ-loop
+    returns
+    returns-2
+    loop-holds
+    mul-if3
+    shared-slice-read-if3
+    mul-word
+    word-requires
+    returns-3
+    add-i
+    loop-less
+    loop-again
+    returns-4)

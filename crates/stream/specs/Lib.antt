@@ -1,0 +1,3 @@
+pub mod Expected
+pub mod Heads
+pub mod Tallies
