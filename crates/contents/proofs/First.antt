@@ -80,3 +80,11 @@ from-at s (suc n) test h = go (test s) refl h (from-at (suc s) n test)
 pub first-at : (n : ℕ) (test : ℕ → Bool) → firstBad n test < n → test (firstBad n test) ≡ false
 unfolding firstBad
 first-at n test h = from-at 0 n test (omega arith)
+
+-- Two tests that agree below n are failed first at one place.
+pub first-ext : (n : ℕ) (f g : ℕ → Bool) → ((i : ℕ) → i < n → f i ≡ g i) → firstBad n f ≡ firstBad n g
+first-ext n f g same =
+    let low : firstBad n f ≤ n = first-le n f in
+    first-only n (firstBad n f) g low
+    (λ i h. sym (same i (omega arith)) ∙ first-before n f i h)
+    (λ h. sym (same (firstBad n f) h) ∙ first-at n f h)
