@@ -12,6 +12,11 @@ use borrow.Author.Tests.{le-leb, lt-leb}
 use Rattle.places.specs.Pick.{pick}
 use Rattle.little.specs.Little.{little, littleOr, numbersOf, readLeaves}
 
+-- one byte
+pub little-one : (l : List ℕ) (at : ℕ) → getD l at 0 ≡ little l at 1
+unfolding little
+little-one l at = omega arith
+
 -- two bytes
 pub little-two : (l : List ℕ) (at : ℕ) → getD l at 0 + getD l (at + 1) 0 * 256 ≡ little l at 2
 unfolding little

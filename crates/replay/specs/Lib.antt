@@ -1,3 +1,1 @@
-pub mod Expected
-pub mod Heads
-pub mod Little
+pub mod Elements

@@ -1,7 +1,8 @@
 // The calls on bit blocks: the sixteen numbers at the front of a buffer.
 use crate::Wide;
-use crate::outcome::Reply;
-use crate::wire::Head;
+use places::Answer;
+use stream::Head;
+use stream::Reply;
 ghost use mathlib.Core.Path.{_≡_};
 ghost use lib.ListN.{getD};
 ghost use Rattle.places.specs.Tab.{tab};
@@ -15,11 +16,7 @@ pub fn call(head: Head, a: &Wide, c: &mut Wide) -> Reply {
         return Reply::Unknown;
     }
     put_bits(moved(head, bits_at_front(a)), c);
-    Reply::Given {
-        number: 0,
-        place: 0,
-        value: 0,
-    }
+    Reply::of(Answer::Done)
 }
 
 // The bits where the call moves them. Its inverse is there for one size only, and no other head is possible for it.

@@ -4,27 +4,33 @@
 //
 // Here stand the loop over the cases and the way of one case. Of the modules, wire reads the stream; t8, t16, t32
 // and t64 make the calls, with the help of narrow and indices, and bit_block those on bit blocks; outcome compares; and
-// tally counts and prints.
+// print prints. The crate stream has the head of a record, the judge and the counts.
 mod bit_block;
 mod indices;
 mod narrow;
 mod outcome;
+mod print;
 mod t16;
 mod t32;
 mod t64;
 mod t8;
-mod tally;
 mod wire;
 
 use indices::indexed;
 use indices::within_indices;
-use outcome::Reply;
-use outcome::Step;
 use outcome::judge;
-use tally::Tally;
-use tally::print_bad;
+use print::print_bad;
+use print::print_tally;
+use stream::Head;
+use stream::Reply;
+use stream::Step;
+use stream::Tally;
 use wire::Beginning;
-use wire::Head;
+use wire::bytes_a;
+use wire::bytes_b;
+use wire::bytes_c;
+use wire::bytes_d;
+use wire::is_possible;
 use wire::read_head;
 use wire::read_numbers;
 
@@ -42,7 +48,7 @@ enum Ending {
 fn main() {
     let ending = replay();
     match ending {
-        Ending::Good(tally) => tally.print(),
+        Ending::Good(tally) => print_tally(tally),
         Ending::Bad(at) => print_bad(at),
     }
 }
@@ -78,7 +84,7 @@ fn next() -> Step {
         Beginning::End => Step::End,
         Beginning::Cut => Step::Bad,
         Beginning::Whole(head) => {
-            if head.is_possible() {
+            if is_possible(head) {
                 case(head)
             } else {
                 Step::Bad
@@ -87,7 +93,8 @@ fn next() -> Step {
     }
 }
 
-// A case after its head: reads the buffers, makes the call and compares.
+// A case after its head: reads the buffers, makes the call and compares. No call gives back a reference here, so the reply has
+// it as it was given.
 fn case(head: Head) -> Step {
     let mut a = [0u64; 4096];
     let mut b = [0u64; 4096];
@@ -95,17 +102,24 @@ fn case(head: Head) -> Step {
     let mut c_exit = [0u64; 4096];
     let mut d = [0u64; 4096];
     let mut d_exit = [0u64; 4096];
-    let there = read_numbers(head.n_a, head.bytes_a(), &mut a)
-        && read_numbers(head.n_b, head.bytes_b(), &mut b)
-        && read_numbers(head.n_c, head.bytes_c(), &mut c)
-        && read_numbers(head.n_c, head.bytes_c(), &mut c_exit)
-        && read_numbers(head.n_d, head.bytes_d(), &mut d)
-        && read_numbers(head.n_d, head.bytes_d(), &mut d_exit);
+    let there = read_numbers(head.n_a, bytes_a(head), &mut a)
+        && read_numbers(head.n_b, bytes_b(head), &mut b)
+        && read_numbers(head.n_c, bytes_c(head), &mut c)
+        && read_numbers(head.n_c, bytes_c(head), &mut c_exit)
+        && read_numbers(head.n_d, bytes_d(head), &mut d)
+        && read_numbers(head.n_d, bytes_d(head), &mut d_exit);
     if !there {
         return Step::Bad;
     }
     let reply = call(head, &a, &b, &mut c, &mut d);
-    judge(head, reply, &c, &c_exit, &d, &d_exit)
+    judge(
+        head,
+        reply.with_reference(head.reference),
+        &c,
+        &c_exit,
+        &d,
+        &d_exit,
+    )
 }
 
 // The call: on bit blocks, or at the size of its elements. What has one size for all is made of b and d here: the indices

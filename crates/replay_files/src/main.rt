@@ -8,21 +8,22 @@
 // impossible: a value, a place or a reference that the call does not give back is expected to be 0, and a case that
 // expects something else differs.
 //
-// Here stand the loop over the cases and the way of one case. Of the modules, calls says what each call takes and makes it,
-// and wire reads and prints.
+// Here stand the loop over the cases and the way of one case. Of the modules, wire reads the stream, calls says what each
+// call takes and makes it, and print prints. The crate stream has the head of a record, the judge and the counts.
 mod calls;
+mod print;
 mod wire;
 
 use calls::call;
 use calls::is_possible;
+use print::print_bad;
+use print::print_tally;
 use stream::Head;
 use stream::Reply;
 use stream::Step;
 use stream::Tally;
 use stream::same_words;
 use wire::Beginning;
-use wire::print_bad;
-use wire::print_tally;
 use wire::read_bytes;
 use wire::read_eights;
 use wire::read_head;

@@ -8,7 +8,7 @@ use denote.Ref.{now}
 use lib.ListN.{length, getD}
 use borrow.Author.Needs.{needs}
 use Rattle.little.specs.Little.{little}
-use Rattle.little.proofs.Little.{little-within}
+use Rattle.little.proofs.Little.{little-one, little-within}
 use Rattle.stream.proofs.head_of.Statement.{statement}
 use Rattle.stream.proofs.head_of.Tie as tie
 
@@ -69,11 +69,7 @@ quad-requires-5 c κs = search needs
 cast-t47 : tie.Need-cast-t47
 cast-t47 c = search needs
 
--- a number of one byte, and the three bytes after the first of four
-one-byte : (l : List ℕ) (at : ℕ) → getD l at 0 ≡ little l at 1
-unfolding little
-one-byte l at = omega arith
-
+-- the three bytes after the first of four
 without-first : (l : List ℕ) → getD l 4 0 < 256 → little l 4 4 / 256 ≡ little l 5 3
 unfolding little
 without-first l low = omega arith
@@ -97,7 +93,7 @@ returns c =
       op = getD l 0 0;
       t = getD l 1 0;
       width = (c0 .pair .ensures ∙ little-within l 2 2 (omega arith)) i;
-      number = (c1 .byte .ensures .0 ∙ one-byte l 4) i;
+      number = (c1 .byte .ensures .0 ∙ little-one l 4) i;
       zero = (ap (λ x. x / 256) (c2 .quad .ensures ∙ little-within l 4 4 (omega arith)) ∙ without-first l low) i;
       place = (c3 .word .ensures ∙ little-within l 8 8 (omega arith)) i;
       value = (c4 .word2 .ensures ∙ little-within l 16 8 (omega arith)) i;

@@ -6,8 +6,8 @@ use native.Mathlib.Nat.{zero-add}
 use native.Mathlib.Omega.{arith}
 use borrow.Author.Needs.{needs}
 use Rattle.places.proofs.Tabs.{Written, written-none, written-next, written-length}
-use Rattle.replay.specs.Little.{little}
-use Rattle.replay.proofs.Little.{within}
+use Rattle.little.specs.Little.{little}
+use Rattle.replay.proofs.Elements.{within}
 use Rattle.replay.proofs.wire.numbers.Statement.{statement}
 use Rattle.replay.proofs.wire.numbers.Tie as tie
 
@@ -23,13 +23,13 @@ loop-holds c = (zero-le, written-none zero-le)
 -- the bytes of the number that a turn reads are there
 inside : (c : tie.In-loop Inv-loop μ-loop)
     → c .before .loop .i * c .before .before .before .args .size + c .before .before .before .args .size ≤ 32768
-inside c = within (c .before .loop .i) (c .before .before .before .args .size) (omega arith) (omega arith)
+inside c = within (c .before .before .before .args .size) (c .before .before .before .pre .1 .1) (c .before .loop .i) (omega arith)
 
-mul-little : tie.Need-mul-little Inv-loop μ-loop
-mul-little c = omega (arith, inside (c .before))
+mul-element : tie.Need-mul-element Inv-loop μ-loop
+mul-element c = omega (arith, inside (c .before))
 
-little-requires : tie.Need-little-requires Inv-loop μ-loop
-little-requires c κs = omega (arith, inside (c .before), c .little-arg .given .0)
+element-requires : tie.Need-element-requires Inv-loop μ-loop
+element-requires c κs = (omega (arith, inside (c .before), c .element-arg .given .0), c .before .before .before .before .pre .1 .1)
 
 mul-out : tie.Need-mul-out Inv-loop μ-loop
 mul-out c = search needs
@@ -46,7 +46,7 @@ loop-less c = search needs
 loop-again : tie.Need-loop-again Inv-loop μ-loop
 loop-again c =
     let inv = c .before .before .before .loop .inv in
-    (omega arith, written-next (inv .1) _ _ (omega arith) (sym (zero-add _)) (c .little .ensures .0))
+    (omega arith, written-next (inv .1) _ _ (omega arith) (sym (zero-add _)) (c .element .ensures))
 
 same-length : tie.Need-same-length Inv-loop μ-loop
 same-length c = written-length (c .before .loop .inv .1)
@@ -63,8 +63,8 @@ numbers-spec =
     Inv-loop
     μ-loop
     loop-holds
-    mul-little
-    little-requires
+    mul-element
+    element-requires
     mul-out
     slice-write-out
     add-i
