@@ -4,7 +4,6 @@
 use mathlib.Core.Path.{_≡_, refl, sym, ap, _∙_}
 use mathlib.Core.Bool.{Bool, true, false}
 use mathlib.Core.List.{List}
-use mathlib.Core.Logic.{_⊎_}
 use Prim.Native.Nat.{ℕ, _*_, _≤_, _<_}
 use lib.ListN.{length, getD}
 use Rattle.places.specs.declared.Answer.{Answer}
@@ -61,26 +60,26 @@ module _ {S : Type 0} (value : ℕ → S) (refused : Answer → S) (t w : ℕ) (
   unfolding unpackLeaves
   single-unpack out eo p hp =
       sym (single-good value refused t w packed p h e)
-      ∙ ap (λ a. single value refused a (valueAt t w packed p)) (index-in w p hp)
+      ∙ ap (λ a. single value refused a (valueAt t w packed p)) (index-in p hp)
       ∙ ap value
       (sym (unpack-at t w packed p hp) ∙ ap (λ a. getD (left a (unpackOf t w packed) out) p 0) (sym (good-block t w out packed h eo e)))
 
   module _ (indices out : List ℕ) (eo : length out ≡ length indices) where
     -- Where the list is taken, each entry that it leaves is what single access gives for that index.
-    pub list-single : (w ≡ 0) ⊎ (firstBeyond 1024 indices ≡ length indices) → (i : ℕ) → i < length indices
+    pub list-single : firstBeyond 1024 indices ≡ length indices → (i : ℕ) → i < length indices
         → singleOf value refused t w packed (getD indices i 0) ≡ value (getD (listLeaves t w packed indices out) i 0)
     unfolding listLeaves listOf
     list-single good i hi =
         sym (single-good value refused t w packed (getD indices i 0) h e)
-        ∙ ap (λ a. single value refused a (valueAt t w packed (getD indices i 0))) (indices-good t w packed indices out good i hi)
+        ∙ ap (λ a. single value refused a (valueAt t w packed (getD indices i 0))) (indices-good indices good i hi)
         ∙ ap value
         (sym (getD-tab (length indices) (λ i. valueAt t w packed (getD indices i 0)) i 0 hi)
         ∙ ap (λ a. getD (left a (listOf t w packed indices) out) i 0) (sym (list-good t w packed indices out h e eo good)))
 
     -- Where an entry is refused, the list is refused at the first of those, and nothing is written.
-    pub list-refused : 0 < w → firstBeyond 1024 indices < length indices
+    pub list-refused : firstBeyond 1024 indices < length indices
         → (answerFor (listTakes t w packed indices out) ≡ Index (firstBeyond 1024 indices)) × (listLeaves t w packed indices out ≡ out)
     unfolding listLeaves
-    list-refused pos b =
-        let bad = list-bad-index t w packed indices out h e eo pos b in
+    list-refused b =
+        let bad = list-bad-index t w packed indices out h e eo b in
         (bad, ap (λ a. left a (listOf t w packed indices) out) bad)

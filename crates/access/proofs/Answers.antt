@@ -1,48 +1,36 @@
 -- What access to one place and by a list answers, by the tests that they make, over the element size.
 -- Assumes nothing.
-use mathlib.Core.Path.{_≡_, refl, sym, ap, _∙_}
-use mathlib.Core.Bool.{Bool, true, false}
+use mathlib.Core.Path.{_≡_, ap}
 use mathlib.Core.List.{List, [], _∷_}
-use mathlib.Core.Logic.{_⊎_, ⊎-elim}
-use Prim.Native.Nat.{ℕ, zero, suc, _*_, _≤_, _<_}
+use Prim.Native.Nat.{ℕ, _*_, _≤_, _<_}
 use native.Mathlib.Omega.{arith}
-use lib.Dec.{eqb}
 use lib.ListN.{length, getD}
 use borrow.Author.Tests.{le-leb, lt-leb, le-ltb, lt-ltb, eq-eqb, ne-eqb}
 use Rattle.places.specs.declared.Answer.{Answer}
 use Rattle.places.specs.declared.Answer.the-variants.{Done, Width, Packed, Lists, Index}
-use Rattle.places.specs.Answers.{unless}
-use Rattle.places.specs.Pick.{either}
 use Rattle.places.specs.Search.{firstBeyond}
 use Rattle.places.specs.Sizes.{lanes}
 use Rattle.places.specs.Takes.{an-index, answerFor}
 use Rattle.places.proofs.Search.{first-beyond-before}
 use Rattle.access.specs.Calls.{single, singleOf, listTakes}
 use Rattle.packing.specs.Packed.{valueAt}
-use Rattle.packing.proofs.Rounds.{value-zero}
 
 -- single access
 
-pub index-in : (w i : ℕ) → i < 1024 → answerFor (an-index w i ∷ []) ≡ Done
+pub index-in : (i : ℕ) → i < 1024 → answerFor (an-index i ∷ []) ≡ Done
 unfolding answerFor
-index-in zero i h = refl
-index-in (suc w) i h = simp (ne-eqb (suc w) 0 (λ e. omega arith), lt-ltb i 1024 h)
-
-pub index-none : (i : ℕ) → answerFor (an-index 0 i ∷ []) ≡ Done
-unfolding answerFor
-index-none i = refl
+index-in i h = simp (lt-ltb i 1024 h)
 
 -- an index within the block is answered with the value there
 pub index-value : {S : Type 0} (value : ℕ → S) (refused : Answer → S) (t w : ℕ) (packed : List ℕ) (i v : ℕ) → i < 1024 → v ≡ valueAt t w packed i
-    → value v ≡ single value refused (answerFor (an-index w i ∷ [])) (valueAt t w packed i)
-index-value value refused t w packed i v h e = rw (index-in w i h) (ap value e)
+    → value v ≡ single value refused (answerFor (an-index i ∷ [])) (valueAt t w packed i)
+index-value value refused t w packed i v h e = rw (index-in i h) (ap value e)
 
--- an index past the block's end
-pub index-past : {S : Type 0} (value : ℕ → S) (refused : Answer → S) (t w : ℕ) (packed : List ℕ) (i : ℕ) → 1024 ≤ i
-    → single value refused (answerFor (an-index w 1024 ∷ [])) 0 ≡ single value refused (answerFor (an-index w i ∷ [])) (valueAt t w packed i)
+-- an index past the block's end is refused
+pub index-past : {S : Type 0} (value : ℕ → S) (refused : Answer → S) (i v : ℕ) → 1024 ≤ i
+    → refused (Index 0) ≡ single value refused (answerFor (an-index i ∷ [])) v
 unfolding answerFor
-index-past value refused t zero packed i h = ap value (sym (value-zero t packed i))
-index-past value refused t (suc w) packed i h = simp (ne-eqb (suc w) 0 (λ e. omega arith), le-ltb i 1024 h)
+index-past value refused i v h = simp (le-ltb i 1024 h)
 
 module _ {S : Type 0} (value : ℕ → S) (refused : Answer → S) (t w : ℕ) (packed : List ℕ) (i : ℕ) where
   pub single-bad-width : t < w → singleOf value refused t w packed i ≡ refused Width
@@ -54,15 +42,11 @@ module _ {S : Type 0} (value : ℕ → S) (refused : Answer → S) (t w : ℕ) (
   single-bad-packed h b = simp (le-leb w t h, ne-eqb (length packed) (lanes t * w) b)
 
   pub single-good : w ≤ t → length packed ≡ lanes t * w
-      → single value refused (answerFor (an-index w i ∷ [])) (valueAt t w packed i) ≡ singleOf value refused t w packed i
+      → single value refused (answerFor (an-index i ∷ [])) (valueAt t w packed i) ≡ singleOf value refused t w packed i
   unfolding singleOf answerFor
   single-good h e = simp (le-leb w t h, eq-eqb (length packed) (lanes t * w) e)
 
 -- access by a list
-
-always : (b : Bool) (a : Answer) → unless (either b true) a Done ≡ Done
-always true a = refl
-always false a = refl
 
 module _ (t w : ℕ) (packed indices out : List ℕ) where
   pub list-bad-width : t < w → answerFor (listTakes t w packed indices out) ≡ Width
@@ -77,29 +61,29 @@ module _ (t w : ℕ) (packed indices out : List ℕ) where
   unfolding answerFor
   list-bad-lists h e b = simp (le-leb w t h, eq-eqb (length packed) (lanes t * w) e, ne-eqb (length out) (length indices) b)
 
-  pub list-bad-index : w ≤ t → length packed ≡ lanes t * w → length out ≡ length indices → 0 < w → firstBeyond 1024 indices < length indices
+  pub list-bad-index : w ≤ t → length packed ≡ lanes t * w → length out ≡ length indices → firstBeyond 1024 indices < length indices
       → answerFor (listTakes t w packed indices out) ≡ Index (firstBeyond 1024 indices)
   unfolding answerFor
-  list-bad-index h e f pos b =
+  list-bad-index h e f b =
       simp (
         le-leb w t h,
         eq-eqb (length packed) (lanes t * w) e,
         eq-eqb (length out) (length indices) f,
-        ne-eqb w 0 (λ z. omega arith),
         ne-eqb (firstBeyond 1024 indices) (length indices) (λ z. omega arith),
       )
 
-  -- each index is below 1,024, or the width is 0
-  pub list-good : w ≤ t → length packed ≡ lanes t * w → length out ≡ length indices → (w ≡ 0) ⊎ (firstBeyond 1024 indices ≡ length indices)
+  -- each index is below 1,024
+  pub list-good : w ≤ t → length packed ≡ lanes t * w → length out ≡ length indices → firstBeyond 1024 indices ≡ length indices
       → answerFor (listTakes t w packed indices out) ≡ Done
   unfolding answerFor
   list-good h e f good =
-      simp (le-leb w t h, eq-eqb (length packed) (lanes t * w) e, eq-eqb (length out) (length indices) f)
-      (⊎-elim (λ z. simp (eq-eqb w 0 z)) (λ z. simp (eq-eqb (firstBeyond 1024 indices) (length indices) z) (always (eqb w 0) _)) good)
+      simp (
+        le-leb w t h,
+        eq-eqb (length packed) (lanes t * w) e,
+        eq-eqb (length out) (length indices) f,
+        eq-eqb (firstBeyond 1024 indices) (length indices) good,
+      )
 
-  pub indices-good : (w ≡ 0) ⊎ (firstBeyond 1024 indices ≡ length indices) → (i : ℕ) → i < length indices → answerFor (an-index w (getD indices i 0) ∷ []) ≡ Done
-  indices-good good i h =
-      ⊎-elim
-      (λ z. ap (λ w. answerFor (an-index w (getD indices i 0) ∷ [])) z ∙ index-none (getD indices i 0))
-      (λ z. index-in w (getD indices i 0) (first-beyond-before 1024 indices i (omega arith)))
-      good
+pub indices-good : (indices : List ℕ) → firstBeyond 1024 indices ≡ length indices → (i : ℕ) → i < length indices
+    → answerFor (an-index (getD indices i 0) ∷ []) ≡ Done
+indices-good indices good i h = index-in (getD indices i 0) (first-beyond-before 1024 indices i (omega arith))

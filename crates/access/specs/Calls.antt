@@ -13,7 +13,7 @@ use Rattle.packing.specs.Packed.{valueAt}
 
 -- Single access takes a width, a packed block and an index.
 abbrev pub singleTakes : (t w : ℕ) (packed : List ℕ) (index : ℕ) → List Taken
-singleTakes t w packed index = a-width t w ∷ a-packed t w packed ∷ an-index w index ∷ []
+singleTakes t w packed index = a-width t w ∷ a-packed t w packed ∷ an-index index ∷ []
 
 -- The single answer is the value where the call is done, and else the refusal. The enum of each element size has these two cases; what each
 -- of them stands for is said in t8, t16, t32 and t64, once for each enum.
@@ -27,7 +27,7 @@ singleOf value refused t w packed index =
 
 -- Access by a list takes a width, a packed block, and the list of indices with its output.
 abbrev pub listTakes : (t w : ℕ) (packed indices output : List ℕ) → List Taken
-listTakes t w packed indices output = a-width t w ∷ a-packed t w packed ∷ two-lists indices output ∷ an-index-list w indices ∷ []
+listTakes t w packed indices output = a-width t w ∷ a-packed t w packed ∷ two-lists indices output ∷ an-index-list indices ∷ []
 
 -- Each entry of the output is the value at its index.
 unfoldable pub listOf : (t w : ℕ) (packed indices : List ℕ) → List ℕ

@@ -66,7 +66,7 @@ pub fn unpack_single(width: usize, packed: &[u32], index: usize) -> Single
         return Single::Refused(Answer::Packed);
     }
     if 1024 <= index {
-        return beyond(width);
+        return Single::Refused(Answer::Index(0));
     }
     Single::Value(read(width, packed, lane_of(index), row_of(index)))
 }
@@ -85,11 +85,9 @@ pub fn unpack_indices(width: usize, packed: &[u32], indices: &[usize], output: &
     if output.len() != indices.len() {
         return Answer::Lists;
     }
-    if 0 < width {
-        let place = first_beyond(indices);
-        if place < indices.len() {
-            return Answer::Index(place);
-        }
+    let place = first_beyond(indices);
+    if place < indices.len() {
+        return Answer::Index(place);
     }
     look_up_all(width, packed, indices, output)
 }
@@ -100,7 +98,7 @@ fn look_up_all(width: usize, packed: &[u32], indices: &[usize], output: &mut [u3
     requires { ⌜ width ≤ t32 ⌝ }
     requires { ⌜ length (now packed) ≡ lanes t32 * width ⌝ }
     requires { ⌜ length (now output) ≡ length (now indices) ⌝ }
-    requires { ⌜ ((i : ℕ) → i < length (now indices) → answerFor (an-index width (getD (now indices) i 0) ∷ []) ≡ Done) ⌝ }
+    requires { ⌜ ((i : ℕ) → i < length (now indices) → answerFor (an-index (getD (now indices) i 0) ∷ []) ≡ Done) ⌝ }
     ensures { λ r. ⌜ r ≡ Done ⌝ }
     ensures { λ _. ⌜ now (output .exit) ≡ listOf t32 width (now (packed .entry)) (now (indices .entry)) ⌝ }
 {
@@ -130,24 +128,14 @@ fn look_up(
     requires { ⌜ length (now packed) ≡ lanes t32 * width ⌝ }
     requires { ⌜ now «lane_by_place» ≡ tab 1024 (lane t32) ⌝ }
     requires { ⌜ now «row_by_place» ≡ tab 1024 (row t32) ⌝ }
-    ensures { λ r. ⌜ r ≡ single Single.Value Single.Refused (answerFor (an-index width index ∷ [])) (valueAt t32 width (now (packed .entry)) index) ⌝ }
+    ensures { λ r. ⌜ r ≡ single Single.Value Single.Refused (answerFor (an-index index ∷ [])) (valueAt t32 width (now (packed .entry)) index) ⌝ }
 {
     if 1024 <= index {
-        return beyond(width);
+        return Single::Refused(Answer::Index(0));
     }
     let l = wide(lane_by_place[index]);
     let r = wide(row_by_place[index]);
     Single::Value(read(width, packed, l, r))
-}
-
-// What single access answers for an index past the block's end: at width 0 it does not look at it.
-fn beyond(width: usize) -> Single
-    ensures { λ r. ⌜ r ≡ single Single.Value Single.Refused (answerFor (an-index width 1024 ∷ [])) 0 ⌝ }
-{
-    if width == 0 {
-        return Single::Value(0);
-    }
-    Single::Refused(Answer::Index(0))
 }
 
 // The value of row r in lane l: width 0 has no words, the middle widths split words, and width T copies.

@@ -16,10 +16,5 @@ pub either-true : (a b : Bool) → either a b ≡ true → (a ≡ true) ⊎ (b �
 either-true true b e = inl refl
 either-true false b e = inr e
 
-pub either-false : (a b : Bool) → either a b ≡ false → (a ≡ false) × (b ≡ false)
-either-false true true e = (e, e)
-either-false true false e = (e, refl)
-either-false false b e = (refl, e)
-
 pub false-true : false ≡ true → ⊥
 false-true e = eqb-false 0 0 (sym e) refl

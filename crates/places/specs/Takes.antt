@@ -1,4 +1,4 @@
--- The table of document 01, "Numbers given back": what a call can take, the test that the table makes of each, and the refusal where the test
+-- The table of document 01, "Numbers given back", with the change of document 02's Item 2: what a call can take, the test that the table makes of each, and the refusal where the test
 -- fails. The table stands here once. Each call has a list of what it takes, beside the call, in the order of the table's numbers, so the
 -- lowest number that applies is the one that is given.
 -- Assumes nothing.
@@ -10,7 +10,6 @@ use lib.ListN.{length}
 use Rattle.places.specs.declared.Answer.{Answer}
 use Rattle.places.specs.declared.Answer.the-variants.{Done, Width, Block, Packed, Base, Lists, Index, Dictionary}
 use Rattle.places.specs.Answers.{firstRefusal}
-use Rattle.places.specs.Pick.{either}
 use Rattle.places.specs.Search.{firstBeyond}
 use Rattle.places.specs.Sizes.{lanes}
 
@@ -26,10 +25,10 @@ pub data Taken : Type 0 where
   a-base : (t : ℕ) (starts : List ℕ) → Taken
   -- a list of indices with its output;
   two-lists : (list output : List ℕ) → Taken
-  -- one index, at width w;
-  an-index : (w i : ℕ) → Taken
-  -- a list of indices, at width w;
-  an-index-list : (w : ℕ) (list : List ℕ) → Taken
+  -- one index;
+  an-index : (i : ℕ) → Taken
+  -- a list of indices;
+  an-index-list : (list : List ℕ) → Taken
   -- or a list of indices into a dictionary.
   dictionary-indices : (dictionary list : List ℕ) → Taken
 
@@ -37,15 +36,15 @@ pub data Taken : Type 0 where
 abbrev pub long : (n : ℕ) (list : List ℕ) → Bool
 long n list = eqb (length list) n
 
--- This is the test that the table makes of each of them. At width 0 no index is looked at.
+-- This is the test that the table makes of each of them. An index is looked at at every width (document 02, Item 2).
 abbrev pub passes : Taken → Bool
 passes (a-width t w) = leb w t
 passes (a-block values) = long 1024 values
 passes (a-packed t w words) = long (lanes t * w) words
 passes (a-base t starts) = long (lanes t) starts
 passes (two-lists list output) = long (length list) output
-passes (an-index w i) = either (eqb w 0) (ltb i 1024)
-passes (an-index-list w list) = either (eqb w 0) (eqb (firstBeyond 1024 list) (length list))
+passes (an-index i) = ltb i 1024
+passes (an-index-list list) = eqb (firstBeyond 1024 list) (length list)
 passes (dictionary-indices dictionary list) = eqb (firstBeyond (length dictionary) list) (length list)
 
 -- This is the refusal where the test fails. Numbers 6 and 7 carry the lowest bad place of a list, and 6 carries 0 for one index.
@@ -55,8 +54,8 @@ refusal (a-block values) = Block
 refusal (a-packed t w words) = Packed
 refusal (a-base t starts) = Base
 refusal (two-lists list output) = Lists
-refusal (an-index w i) = Index 0
-refusal (an-index-list w list) = Index (firstBeyond 1024 list)
+refusal (an-index i) = Index 0
+refusal (an-index-list list) = Index (firstBeyond 1024 list)
 refusal (dictionary-indices dictionary list) = Dictionary (firstBeyond (length dictionary) list)
 
 -- A call that takes these things answers with the first refusal of the list, and where every test passes it is done.

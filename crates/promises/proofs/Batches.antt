@@ -2,7 +2,6 @@
 -- list access and single access give and leave, for every list.
 -- Assumes nothing.
 use mathlib.Core.List.{List}
-use mathlib.Core.Logic.{_⊎_, inl, inr, ⊎-map}
 use mathlib.Core.Path.{_≡_, refl, ap}
 use Prim.Native.Nat.{ℕ, _*_, _≤_, _<_}
 use native.Mathlib.Decide.{decLe}
@@ -27,22 +26,16 @@ module _ (t w : ℕ) (packed indices output : List ℕ) where
   batch-done value refused done i h =
       let given = list-numbers t w packed indices output 0 .0 .0 (ap numberOf done, ap placeOf done) in
       list-single value refused t w packed (given .0) (given .1 .0) indices output (given .1 .1 .0)
-      (⊎-map (λ e. e) (first-beyond-none 1024 indices .1) (given .1 .1 .1 .0)) i h
+      (first-beyond-none 1024 indices .1 (given .1 .1 .1 .0)) i h
 
   module _ (hw : w ≤ t) (ep : length packed ≡ lanes t * w) (eo : length output ≡ length indices) where
-    -- An entry is refused only where the width is above 0 and its index is 1,024 or more.
-    bad-index : (i : ℕ) → (numberOf (answerFor (singleTakes t w packed i)) ≡ 0 → ⊥) → (0 < w) × (1024 ≤ i)
+    -- An entry is refused only where its index is 1,024 or more.
+    bad-index : (i : ℕ) → (numberOf (answerFor (singleTakes t w packed i)) ≡ 0 → ⊥) → 1024 ≤ i
     bad-index i refused =
-        let never : ((w ≡ 0) ⊎ (i < 1024)) → ⊥ = λ good. refused (single-numbers t w packed i 0 .0 .1 (hw, (ep, (good, refl))) .0) in (
-          elim (decLe 1 w) [
-            | yes h ↦ h
-            | no d ↦ absurd (never (inl (omega arith)))
-          ],
-          elim (decLe 1024 i) [
-            | yes h ↦ h
-            | no d ↦ absurd (never (inr (omega arith)))
-          ],
-        )
+        elim (decLe 1024 i) [
+          | yes h ↦ h
+          | no d ↦ absurd (refused (single-numbers t w packed i 0 .0 .1 (hw, (ep, (omega arith, refl))) .0))
+        ]
 
     -- One entry that single access refuses refuses the whole list, with the lowest place of such an entry, and nothing is written.
     pub batch-refused : (i : ℕ) → i < length indices → (numberOf (answerFor (singleTakes t w packed (getD indices i 0))) ≡ 0 → ⊥)
@@ -54,7 +47,7 @@ module _ (t w : ℕ) (packed indices output : List ℕ) where
         let first : firstBeyond 1024 indices ≤ i =
         elim (decLe (firstBeyond 1024 indices) i) [
           | yes h ↦ h
-          | no d ↦ absurd (omega (arith, first-beyond-before 1024 indices i (omega arith), bad .1))
+          | no d ↦ absurd (omega (arith, first-beyond-before 1024 indices i (omega arith), bad))
         ] in
-        let left = list-refused {S = Answer} (λ _. Done) (λ a. a) t w packed hw ep indices output eo (bad .0) (omega arith) in
+        let left = list-refused {S = Answer} (λ _. Done) (λ a. a) t w packed hw ep indices output eo (omega arith) in
         (left .0, first, left .1)

@@ -97,7 +97,7 @@ lane-holds t w l rows words hw hl lr e values packed lv lp held =
 read-is : (t w p : ℕ) (packed : List ℕ) → w ≤ t → p < 1024 → length packed ≡ lanes t * w
     → singleOf Value Refused t w packed p ≡ Value (valueAt t w packed p)
 read-is t w p packed hw hp lp =
-    sym (single-good Value Refused t w packed p hw lp) ∙ ap (λ a. single Value Refused a (valueAt t w packed p)) (index-in w p hp)
+    sym (single-good Value Refused t w packed p hw lp) ∙ ap (λ a. single Value Refused a (valueAt t w packed p)) (index-in p hp)
 
 -- n words, all 0 but the one at k, which is b
 marked : (n k b : ℕ) → List ℕ

@@ -1,12 +1,12 @@
 -- Document 01's table, "Numbers given back", call by call and in plain arithmetic: when a call gives each of its numbers with place p. All
--- of it follows from the one table. Then the table's corners: an empty dictionary, and width 0.
+-- of it follows from the one table. Then the table's corners: an empty dictionary, and width 0, where every value is 0 and an index is looked at as anywhere.
 --
 -- In each statement `gives n` says that the call gives number n with place p. To the right of it stand first the conditions of the lower
 -- numbers, turned round since none of them applies, and then the number's own with its place. A number that has no line belongs to nothing
 -- that the call takes, so the table never gives it; `exactly` in proofs/Tables.antt says that too.
 -- Assumes nothing.
 use mathlib.Core.List.{List, []}
-use mathlib.Core.Logic.{_↔_, _≢_, _⊎_, inl}
+use mathlib.Core.Logic.{_↔_, _≢_, _⊎_}
 use mathlib.Core.Path.{_≡_, refl, sym, ap, _∙_}
 use Prim.Native.Nat.{ℕ, _*_, _≤_, _<_}
 use native.Mathlib.Omega.{arith}
@@ -14,6 +14,7 @@ use lib.ListN.{length, getD}
 use Rattle.places.specs.declared.Answer.{Answer}
 use Rattle.places.specs.declared.Answer.the-variants.{Done}
 use Rattle.places.specs.Answers.{numberOf, placeOf, left}
+use Rattle.places.specs.Search.{firstBeyond}
 use Rattle.places.specs.Sizes.{lanes}
 use Rattle.places.specs.Tab.{tab}
 use Rattle.places.specs.Takes.{answerFor}
@@ -23,7 +24,7 @@ use Rattle.packing.specs.Calls.{packTakes}
 use Rattle.packing.specs.Packed.{valueAt}
 use Rattle.packing.proofs.Rounds.{value-zero}
 use Rattle.access.specs.Calls.{singleTakes, single, singleOf, listTakes, listOf, listLeaves}
-use Rattle.access.proofs.Answers.{list-good, index-none, single-good}
+use Rattle.access.proofs.Answers.{list-good, index-in, single-good}
 use Rattle.deltas.specs.Calls.{deltaTakes, undeltaPackTakes}
 use Rattle.runs.specs.Calls.{encodeTakes, decodeTakes}
 use Rattle.promises.specs.Tables.{Lowest, Gives}
@@ -52,10 +53,10 @@ pack-numbers t w values packed p =
 -- single access
 pub single-numbers : (t w : ℕ) (packed : List ℕ) (index p : ℕ)
     → let gives : ℕ → Type 0 = λ n. Gives (answerFor (singleTakes t w packed index)) n p in
-    (gives 0 ↔ ((w ≤ t) × ((length packed ≡ lanes t * w) × (((w ≡ 0) ⊎ (index < 1024)) × (p ≡ 0)))))
+    (gives 0 ↔ ((w ≤ t) × ((length packed ≡ lanes t * w) × ((index < 1024) × (p ≡ 0)))))
     × (gives 1 ↔ ((t < w) × (p ≡ 0)))
     × (gives 3 ↔ ((w ≤ t) × ((length packed ≢ lanes t * w) × (p ≡ 0))))
-    × (gives 6 ↔ ((w ≤ t) × ((length packed ≡ lanes t * w) × ((0 < w) × (1024 ≤ index) × (p ≡ 0)))))
+    × (gives 6 ↔ ((w ≤ t) × ((length packed ≡ lanes t * w) × ((1024 ≤ index) × (p ≡ 0)))))
 single-numbers t w packed index p =
     let row = plainly (singleTakes t w packed index) refl in
     (row 0 p, row 1 p, row 3 p, row 6 p)
@@ -63,12 +64,12 @@ single-numbers t w packed index p =
 -- access by a list
 pub list-numbers : (t w : ℕ) (packed indices output : List ℕ) (p : ℕ)
     → let gives : ℕ → Type 0 = λ n. Gives (answerFor (listTakes t w packed indices output)) n p in
-    let good : Type 0 = (w ≡ 0) ⊎ ((i : ℕ) → i < length indices → getD indices i 0 < 1024) in
+    let good : Type 0 = (i : ℕ) → i < length indices → getD indices i 0 < 1024 in
     (gives 0 ↔ ((w ≤ t) × ((length packed ≡ lanes t * w) × ((length output ≡ length indices) × (good × (p ≡ 0))))))
     × (gives 1 ↔ ((t < w) × (p ≡ 0)))
     × (gives 3 ↔ ((w ≤ t) × ((length packed ≢ lanes t * w) × (p ≡ 0))))
     × (gives 5 ↔ ((w ≤ t) × ((length packed ≡ lanes t * w) × ((length output ≢ length indices) × (p ≡ 0)))))
-    × (gives 6 ↔ ((w ≤ t) × ((length packed ≡ lanes t * w) × ((length output ≡ length indices) × ((0 < w) × Lowest 1024 indices p)))))
+    × (gives 6 ↔ ((w ≤ t) × ((length packed ≡ lanes t * w) × ((length output ≡ length indices) × Lowest 1024 indices p))))
 list-numbers t w packed indices output p =
     let row = plainly (listTakes t w packed indices output) refl in
     (row 0 p, row 1 p, row 3 p, row 5 p, row 6 p)
@@ -125,19 +126,20 @@ module _ (t : ℕ) (packed : List ℕ) (e : length packed ≡ 0) where
   none : length packed ≡ lanes t * 0
   none = omega arith
 
-  -- At width 0 no index is looked at: single access gives the value 0 for each,
-  pub single-zero : {S : Type 0} (value : ℕ → S) (refused : Answer → S) (index : ℕ) → singleOf value refused t 0 packed index ≡ value 0
-  single-zero value refused index =
+  -- At width 0 single access gives the value 0 for each index within the block,
+  pub single-zero : {S : Type 0} (value : ℕ → S) (refused : Answer → S) (index : ℕ) → index < 1024
+      → singleOf value refused t 0 packed index ≡ value 0
+  single-zero value refused index h =
       sym (single-good value refused t 0 packed index (omega arith) none)
-      ∙ ap (λ a. single value refused a (valueAt t 0 packed index)) (index-none index)
+      ∙ ap (λ a. single value refused a (valueAt t 0 packed index)) (index-in index h)
       ∙ ap value (value-zero t packed index)
 
-  -- and a list of any indices is done, with 0 at each place.
-  pub list-zero : (indices output : List ℕ) → length output ≡ length indices
+  -- and a list of such indices is done, with 0 at each place.
+  pub list-zero : (indices output : List ℕ) → length output ≡ length indices → firstBeyond 1024 indices ≡ length indices
       → Gives (answerFor (listTakes t 0 packed indices output)) 0 0 × (listLeaves t 0 packed indices output ≡ tab (length indices) (λ _. 0))
   unfolding listLeaves listOf
-  list-zero indices output eo =
-      let done : answerFor (listTakes t 0 packed indices output) ≡ Done = list-good t 0 packed indices output (omega arith) none eo (inl refl) in (
+  list-zero indices output eo good =
+      let done : answerFor (listTakes t 0 packed indices output) ≡ Done = list-good t 0 packed indices output (omega arith) none eo good in (
         (ap numberOf done, ap placeOf done),
         ap (λ a. left a (listOf t 0 packed indices) output) done
             ∙ tab-ext (length indices) _ _ 0 (λ i h. value-zero t packed (getD indices i 0)),

@@ -18,7 +18,7 @@ use Rattle.places.specs.Search.{firstBeyond}
 use Rattle.places.specs.Sizes.{lanes}
 use Rattle.places.specs.Takes.{Taken, passes, refusal, answerFor}
 use Rattle.places.specs.Takes.{a-width, a-block, a-packed, a-base, two-lists, an-index, an-index-list, dictionary-indices}
-use Rattle.places.proofs.Tests.{both-true, either-true, either-false, false-true}
+use Rattle.places.proofs.Tests.{both-true, either-true, false-true}
 use Rattle.places.proofs.Search.{first-beyond-le, first-beyond-before, first-beyond-at, first-beyond-only, first-beyond-none}
 use Rattle.promises.specs.Tables.{Lowest, numberFor, Condition, Applies, Given, Gives, Exactly}
 
@@ -54,8 +54,8 @@ numbered (a-block values) = (refl, omega arith)
 numbered (a-packed t w words) = (refl, omega arith)
 numbered (a-base t starts) = (refl, omega arith)
 numbered (two-lists list output) = (refl, omega arith)
-numbered (an-index w i) = (refl, omega arith)
-numbered (an-index-list w list) = (refl, omega arith)
+numbered (an-index i) = (refl, omega arith)
+numbered (an-index-list list) = (refl, omega arith)
 numbered (dictionary-indices dictionary list) = (refl, omega arith)
 
 -- What is taken is in order: the table's condition the other way round, in plain arithmetic.
@@ -65,8 +65,8 @@ InOrder (a-block values) = length values ≡ 1024
 InOrder (a-packed t w words) = length words ≡ lanes t * w
 InOrder (a-base t starts) = length starts ≡ lanes t
 InOrder (two-lists list output) = length output ≡ length list
-InOrder (an-index w i) = (w ≡ 0) ⊎ (i < 1024)
-InOrder (an-index-list w list) = (w ≡ 0) ⊎ ((i : ℕ) → i < length list → getD list i 0 < 1024)
+InOrder (an-index i) = i < 1024
+InOrder (an-index-list list) = (i : ℕ) → i < length list → getD list i 0 < 1024
 InOrder (dictionary-indices dictionary list) = (i : ℕ) → i < length list → getD list i 0 < length dictionary
 
 -- Where the test passes, it is,
@@ -76,9 +76,8 @@ passed (a-block values) e = eqb-true (length values) 1024 e
 passed (a-packed t w words) e = eqb-true (length words) (lanes t * w) e
 passed (a-base t starts) e = eqb-true (length starts) (lanes t) e
 passed (two-lists list output) e = eqb-true (length output) (length list) e
-passed (an-index w i) e = ⊎-map (eqb-true w 0) (ltb-true i 1024) (either-true (eqb w 0) (ltb i 1024) e)
-passed (an-index-list w list) e =
-    ⊎-map (eqb-true w 0) (all-below 1024 list) (either-true (eqb w 0) (eqb (firstBeyond 1024 list) (length list)) e)
+passed (an-index i) e = ltb-true i 1024 e
+passed (an-index-list list) e = all-below 1024 list e
 passed (dictionary-indices dictionary list) e = all-below (length dictionary) list e
 
 -- and where it is, the condition holds at no place.
@@ -88,13 +87,9 @@ no-condition (a-block values) o p c = c .0 o
 no-condition (a-packed t w words) o p c = c .0 o
 no-condition (a-base t starts) o p c = c .0 o
 no-condition (two-lists list output) o p c = c .0 o
-no-condition (an-index w i) o p c = ⊎-elim (λ z. omega arith) (λ h. omega arith) o
-no-condition (an-index-list w list) o p c = ⊎-elim (λ z. omega arith) (λ all. not-lowest 1024 list all p (c .1)) o
+no-condition (an-index i) o p c = omega arith
+no-condition (an-index-list list) o p c = not-lowest 1024 list o p c
 no-condition (dictionary-indices dictionary list) o p c = not-lowest (length dictionary) list o p c
-
-positive : (w : ℕ) → eqb w 0 ≡ false → 0 < w
-positive zero e = absurd (eqb-false 0 0 e refl)
-positive (suc w) e = omega arith
 
 -- Where the test fails, the condition holds at the refusal's place,
 failed : (x : Taken) → passes x ≡ false → Condition x (placeOf (refusal x))
@@ -103,13 +98,8 @@ failed (a-block values) e = (eqb-false (length values) 1024 e, refl)
 failed (a-packed t w words) e = (eqb-false (length words) (lanes t * w) e, refl)
 failed (a-base t starts) e = (eqb-false (length starts) (lanes t) e, refl)
 failed (two-lists list output) e = (eqb-false (length output) (length list) e, refl)
-failed (an-index w i) e =
-    let f : (eqb w 0 ≡ false) × (ltb i 1024 ≡ false) = either-false (eqb w 0) (ltb i 1024) e in
-    (positive w (f .0), ltb-false i 1024 (f .1), refl)
-failed (an-index-list w list) e =
-    let f : (eqb w 0 ≡ false) × (eqb (firstBeyond 1024 list) (length list) ≡ false) =
-    either-false (eqb w 0) (eqb (firstBeyond 1024 list) (length list)) e in
-    (positive w (f .0), lowest-is 1024 list (eqb-false (firstBeyond 1024 list) (length list) (f .1)))
+failed (an-index i) e = (ltb-false i 1024 e, refl)
+failed (an-index-list list) e = lowest-is 1024 list (eqb-false (firstBeyond 1024 list) (length list) e)
 failed (dictionary-indices dictionary list) e =
     lowest-is (length dictionary) list (eqb-false (firstBeyond (length dictionary) list) (length list) e)
 
@@ -120,8 +110,8 @@ placed (a-block values) p c = sym (c .1)
 placed (a-packed t w words) p c = sym (c .1)
 placed (a-base t starts) p c = sym (c .1)
 placed (two-lists list output) p c = sym (c .1)
-placed (an-index w i) p c = sym (c .2)
-placed (an-index-list w list) p c = lowest-only 1024 list p (c .1)
+placed (an-index i) p c = sym (c .1)
+placed (an-index-list list) p c = lowest-only 1024 list p c
 placed (dictionary-indices dictionary list) p c = lowest-only (length dictionary) list p c
 
 -- The place is 0 for every number but 6 and 7.

@@ -25,8 +25,8 @@ numberFor (a-block values) = 2
 numberFor (a-packed t w words) = 3
 numberFor (a-base t starts) = 4
 numberFor (two-lists list output) = 5
-numberFor (an-index w i) = 6
-numberFor (an-index-list w list) = 6
+numberFor (an-index i) = 6
+numberFor (an-index-list list) = 6
 numberFor (dictionary-indices dictionary list) = 7
 
 -- This is the number's condition, with the place p that is returned.
@@ -36,8 +36,8 @@ Condition (a-block values) p = (length values ≢ 1024) × (p ≡ 0)
 Condition (a-packed t w words) p = (length words ≢ lanes t * w) × (p ≡ 0)
 Condition (a-base t starts) p = (length starts ≢ lanes t) × (p ≡ 0)
 Condition (two-lists list output) p = (length output ≢ length list) × (p ≡ 0)
-Condition (an-index w i) p = (0 < w) × (1024 ≤ i) × (p ≡ 0)
-Condition (an-index-list w list) p = (0 < w) × Lowest 1024 list p
+Condition (an-index i) p = (1024 ≤ i) × (p ≡ 0)
+Condition (an-index-list list) p = Lowest 1024 list p
 Condition (dictionary-indices dictionary list) p = Lowest (length dictionary) list p
 
 -- Number n applies with place p where it does so for something that the call takes.

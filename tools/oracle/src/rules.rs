@@ -1,4 +1,4 @@
-//! What is refused: document 01's table "Numbers given back", written down once.
+//! What is refused: document 01's table "Numbers given back", with document 02's Item 2, written down once.
 //!
 //! The crate has no numbers: it panics or is undefined where a call is refused here. So this module
 //! alone says what is expected of a refused case, and it stands apart from every proof and every
@@ -68,17 +68,14 @@ fn list_and_outputs_differ(q: &Question) -> Option<usize> {
     at_0(q.lengths(Role::Places).ne(q.lengths(Role::Outputs)))
 }
 
-/// 6: the width is above 0 and an index is 1024 or more. Of a list, the lowest such place; of a
-/// single access, 0. At width 0 no index is looked at.
+/// 6: an index is 1024 or more. Of a list, the lowest such place; of a single access, 0. The crate
+/// does not look at an index at width 0; document 02, Item 2, asks for it at every width.
 fn index_1024_or_more(q: &Question) -> Option<usize> {
     let indices = match q.call {
         Call::Single => std::slice::from_ref(&q.index),
         Call::List => &q.buffers[B],
         _ => &[],
     };
-    if q.width == 0 {
-        return None;
-    }
     indices.iter().position(|&index| index >= BLOCK as u64)
 }
 

@@ -88,7 +88,7 @@ fn edges(call: Call, t: u32, random: &mut Random, sink: &mut Sink) {
     }
 }
 
-/// Index 1023, and at width 0 indices that are no places.
+/// Index 1023, and at width 0 indices that are no places, which are refused there too.
 fn places(t: u32, random: &mut Random, sink: &mut Sink) {
     for (width, index) in [(3, 1023), (3, 256), (0, 1024), (0, u64::MAX)] {
         let mut q = accepted(Call::Single, t, width, PLAIN, random);
@@ -97,7 +97,7 @@ fn places(t: u32, random: &mut Random, sink: &mut Sink) {
     }
 }
 
-/// No index, one, some, and at width 0 indices that are no places.
+/// No index, one, some, and at width 0 indices that are no places, which are refused there too.
 fn lists(t: u32, random: &mut Random, sink: &mut Sink) {
     for list in [0, 1, 50] {
         sink.put(&accepted(Call::List, t, 3, Shape { list, ..PLAIN }, random));

@@ -58,7 +58,7 @@ fn kinds(call: Call, t: u32, width: u64) -> Vec<Kind> {
 }
 
 /// Single access at the first and last places and two others; at width 0 also at indices that are
-/// no places.
+/// no places, which the crate takes there and document 02, Item 2, refuses.
 fn places(t: u32, width: u64, random: &mut Random, sink: &mut Sink) {
     let mut indices = vec![0, 1023, random.below(1024), random.below(1024)];
     if width == 0 {
@@ -72,7 +72,7 @@ fn places(t: u32, width: u64, random: &mut Random, sink: &mut Sink) {
 }
 
 /// List access with no index, one, all 1,024 places in random order and, at width 0 and T, 2,048.
-/// At width 0 bad indices are accepted, so they stand here too; so do those in a long list.
+/// Bad indices at width 0, which the crate takes, stand here too; so do those in a long list.
 fn lists(t: u32, width: u64, random: &mut Random, sink: &mut Sink) {
     let mut lengths = vec![0, 1, BLOCK];
     if width == 0 || width == t.into() {

@@ -1,7 +1,6 @@
 -- `access::t64::unpack_indices` meets its contract: each refusal by its test, and the rest is the lookups'.
 -- Assumes nothing.
 use mathlib.Core.Path.{_≡_, refl, subst, _∙_}
-use mathlib.Core.Logic.{_⊎_, ⊎-elim, inl, inr}
 use Prim.Native.Nat.{_<_}
 use native.Mathlib.Omega.{arith}
 use denote.Ref.{now}
@@ -38,34 +37,25 @@ returns-4 : tie.Need-returns-4
 unfolding listLeaves
 returns-4 c =
     let at = c .before in
-    let start = at .before .before .before .before .before .before .before .before in
+    let start = at .before .before .before .before .before .before .before in
     let indices = now (start .args .indices) in
-    let bad : firstBeyond 1024 indices < length indices = subst (λ n. n < length indices) (at .first-beyond .ensures) (c .if5 .taken) in
+    let bad : firstBeyond 1024 indices < length indices = subst (λ n. n < length indices) (at .first-beyond .ensures) (c .if4 .taken) in
     rw (
       at .first-beyond .ensures,
-      list-bad-index t64 (start .args .width) (now (start .args .packed)) indices (now (start .args .output)) (omega arith) (omega arith) (omega arith) (omega arith) bad,
+      list-bad-index t64 (start .args .width) (now (start .args .packed)) indices (now (start .args .output)) (omega arith) (omega arith) (omega arith) bad,
     )
     (refl, refl)
 
--- each index was looked at, or the width is 0
-looked : (c : tie.Joined4) → (c .before .before .before .before .before .before .before .args .width ≡ 0)
-    ⊎ (firstBeyond 1024 (now (c .before .before .before .before .before .before .before .args .indices)) ≡ length (now (c .before .before .before .before .before .before .before .args .indices)))
+-- each index was looked at
+looked : (c : tie.Else4) → firstBeyond 1024 (now (c .before .before .before .before .before .before .before .before .args .indices)) ≡ length (now (c .before .before .before .before .before .before .before .before .args .indices))
 looked c =
-    let indices = now (c .before .before .before .before .before .before .before .args .indices) in
-    ⊎-elim
-    (λ all. inr (omega (arith, all .1 .ensures, first-beyond-le 1024 indices, all .2 .left)))
-    (λ none. inl (omega (arith, none .left)))
-    (c .if4 .came)
+    let indices = now (c .before .before .before .before .before .before .before .before .args .indices) in
+    omega (arith, c .before .first-beyond .ensures, first-beyond-le 1024 indices, c .if4 .left)
 
 look-up-all-requires : tie.Need-look-up-all-requires
 look-up-all-requires c κs =
-    let start = c .before .before .before .before .before .before .before .before in (
-      omega arith,
-      (
-        omega arith,
-        (omega arith, indices-good t64 (start .args .width) (now (start .args .packed)) (now (start .args .indices)) (now (start .args .output)) (looked (c .before))),
-      ),
-    )
+    let start = c .before .before .before .before .before .before .before .before .before in
+    (omega arith, (omega arith, (omega arith, indices-good (now (start .args .indices)) (looked (c .before)))))
 
 same-length : tie.Need-same-length
 same-length c = search needs
@@ -74,7 +64,7 @@ returns-5 : tie.Need-returns-5
 unfolding listLeaves
 returns-5 c =
     let at = c .before .before .before .before in
-    let start = at .before .before .before .before .before .before .before in
+    let start = at .before .before .before .before .before .before .before .before in
     let gave = c .before .before .look-up-all .ensures in
     let whole =
     done _ _ _ _
