@@ -8,7 +8,7 @@ use native.Mathlib.Omega.{arith}
 use lib.Arith.{digits-lt, digits-div, digits-mod}
 use lib.ListN.{getD}
 use Rattle.places.proofs.Tabs.{getD-tab, length-tab, tab-ext, is-tab}
-use Rattle.bits.specs.Bits.{BitBlock, bit, blockOf, bitOf}
+use Rattle.bits.specs.Bits.{BitBlock, bit, fromBits, bitOf}
 use Rattle.places.specs.Numbers.{number, digit}
 use Rattle.bits.specs.InnerSteps.{byteAt, bytesOf, gatherOf, turnOf, gathersOf, turnsOf, byteOf}
 use Rattle.bits.proofs.Gathers.{strided-lt}
@@ -31,16 +31,16 @@ bit-at b k i h =
     rw (at .0, at .1)
 
 -- The block that is made of the bits f has these bits.
-pub bit-block : (f : ℕ → ℕ) → ((q : ℕ) → q < 1024 → f q < 2) → (q : ℕ) → q < 1024 → bit (blockOf f) q ≡ f q
-unfolding bit blockOf
+pub bit-block : (f : ℕ → ℕ) → ((q : ℕ) → q < 1024 → f q < 2) → (q : ℕ) → q < 1024 → bit (fromBits f) q ≡ f q
+unfolding bit fromBits
 bit-block f small q h =
     ap (λ x. bitOf x (q % 64)) (getD-tab 16 (λ k. number 1 (λ i. f (k * 64 + i)) 64) (q / 64) 0 (omega arith))
     ∙ bit-of-number (λ i. f (q / 64 * 64 + i)) 64 (λ i l. small (q / 64 * 64 + i) (omega arith)) (q % 64) (omega arith)
     ∙ ap f (div-add-mod' q 64)
 
 -- Its numbers are sixteen, and are below 2^64.
-pub block-block : (f : ℕ → ℕ) → ((q : ℕ) → q < 1024 → f q < 2) → BitBlock (blockOf f)
-unfolding blockOf
+pub block-block : (f : ℕ → ℕ) → ((q : ℕ) → q < 1024 → f q < 2) → BitBlock (fromBits f)
+unfolding fromBits
 block-block f small =
     record {
       sixteen = length-tab 16 _;
@@ -48,14 +48,14 @@ block-block f small =
     }
 
 -- Two rules that agree on the 1,024 bits give one block.
-pub block-ext : (f g : ℕ → ℕ) → ((q : ℕ) → q < 1024 → f q ≡ g q) → blockOf f ≡ blockOf g
-unfolding blockOf
+pub block-ext : (f g : ℕ → ℕ) → ((q : ℕ) → q < 1024 → f q ≡ g q) → fromBits f ≡ fromBits g
+unfolding fromBits
 block-ext f g e =
     tab-ext 16 _ _ 0 (λ k h. number-ext 1 (λ i. f (k * 64 + i)) (λ i. g (k * 64 + i)) 64 (λ i l. e (k * 64 + i) (omega arith)))
 
 -- A block is the one that its bits make, whatever rule gives them.
-pub is-block : (b : List ℕ) (f : ℕ → ℕ) → BitBlock b → ((q : ℕ) → q < 1024 → bit b q ≡ f q) → b ≡ blockOf f
-unfolding blockOf
+pub is-block : (b : List ℕ) (f : ℕ → ℕ) → BitBlock b → ((q : ℕ) → q < 1024 → bit b q ≡ f q) → b ≡ fromBits f
+unfolding fromBits
 is-block b f whole e =
     is-tab b 16 _ 0 (whole .sixteen)
     (λ k h. is-number (getD b k 0) 64 (λ i. f (k * 64 + i)) (whole .small k h) (λ i l. sym (bit-at b k i l) ∙ e (k * 64 + i) (omega arith)))
@@ -109,8 +109,8 @@ turned i h =
     (digits-lt (mod-lt i (omega arith)) c, digits-div (i % 8) c, digits-mod (i % 8) c)
 
 module _ (b : List ℕ) (start : ℕ → ℕ) (step : ℕ) (room : (k : ℕ) → k < 16 → start k + 7 * step < 128) where
-  pub gathers-bits : gathersOf start step b ≡ blockOf (λ q. bit b (gatherFrom start step q))
-  unfolding gathersOf blockOf
+  pub gathers-bits : gathersOf start step b ≡ fromBits (λ q. bit b (gatherFrom start step q))
+  unfolding gathersOf fromBits
   gathers-bits =
       tab-ext 16 _ _ 0
       (λ k h.
@@ -119,8 +119,8 @@ module _ (b : List ℕ) (start : ℕ → ℕ) (step : ℕ) (room : (k : ℕ) →
       let at = in-word k i l in
       rw (at .0, at .1, at .2) (gather-bit b (start k) step (room k h) i l)))
 
-  pub turns-bits : turnsOf start step b ≡ blockOf (λ q. bit b (turnFrom start step q))
-  unfolding turnsOf turnOf blockOf
+  pub turns-bits : turnsOf start step b ≡ fromBits (λ q. bit b (turnFrom start step q))
+  unfolding turnsOf turnOf fromBits
   turns-bits =
       tab-ext 16 _ _ 0
       (λ k h.
@@ -138,7 +138,7 @@ pub two-walks : (b : List ℕ) (start₁ : ℕ → ℕ) (step₁ : ℕ) (start�
     → ((k : ℕ) → k < 16 → start₂ k + 7 * step₂ < 128)
     → ((q : ℕ) → q < 1024 → gatherFrom start₂ step₂ q < 1024)
     → ((q : ℕ) → q < 1024 → turnFrom start₁ step₁ (gatherFrom start₂ step₂ q) ≡ f q)
-    → gathersOf start₂ step₂ (turnsOf start₁ step₁ b) ≡ blockOf (λ q. bit b (f q))
+    → gathersOf start₂ step₂ (turnsOf start₁ step₁ b) ≡ fromBits (λ q. bit b (f q))
 two-walks b start₁ step₁ start₂ step₂ f room₁ room₂ inside e =
     gathers-bits (turnsOf start₁ step₁ b) start₂ step₂ room₂
     ∙ block-ext _ _

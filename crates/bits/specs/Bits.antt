@@ -23,8 +23,8 @@ unfoldable pub bit : (b : List ℕ) (p : ℕ) → ℕ
 bit b p = bitOf (getD b (p / 64) 0) (p % 64)
 
 -- This is the block whose bit p is f p, for each p below 1,024, where f gives only 0 and 1. That there is no other such block is a law.
-unfoldable pub blockOf : (ℕ → ℕ) → List ℕ
-blockOf f = tab 16 (λ k. number 1 (λ i. f (k * 64 + i)) 64)
+unfoldable pub fromBits : (ℕ → ℕ) → List ℕ
+fromBits f = tab 16 (λ k. number 1 (λ i. f (k * 64 + i)) 64)
 
 -- The transpose for size t moves input bit l·t + r to the place of row r in lane l. Of input bit p, r is p mod t and l is p / t.
 unfoldable pub goesTo : (t p : ℕ) → ℕ
@@ -36,8 +36,8 @@ comesFrom t q = lane t q * t + row t q
 
 -- This is what transpose_bits gives for size t.
 unfoldable pub transposeBitsOf : (t : ℕ) (b : List ℕ) → List ℕ
-transposeBitsOf t b = blockOf (λ q. bit b (comesFrom t q))
+transposeBitsOf t b = fromBits (λ q. bit b (comesFrom t q))
 
 -- This is what untranspose_bits gives, for size 64 only: output bit p is the input bit at the place where the transpose puts bit p.
 unfoldable pub untransposeBitsOf : List ℕ → List ℕ
-untransposeBitsOf b = blockOf (λ p. bit b (goesTo t64 p))
+untransposeBitsOf b = fromBits (λ p. bit b (goesTo t64 p))

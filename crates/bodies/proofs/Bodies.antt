@@ -31,12 +31,12 @@ use Rattle.little.specs.Little.{numbersOf, readLeaves}
 use Rattle.little.proofs.Little.{read-all}
 use Rattle.contents.specs.declared.Entry.{Entry}
 use Rattle.contents.specs.declared.FileAnswer.{FileAnswer}
-use Rattle.contents.specs.declared.FileAnswer.the-variants.{Done, Block, Cut, Entry as BadEntry, Over, Runs}
+use Rattle.contents.specs.declared.FileAnswer.the-variants.{Done, Block, Cut, BadEntry, Over, Runs}
 use Rattle.contents.specs.Answers.{enough, an-end, good-runs, fileAnswer, numberOf, left}
 use Rattle.contents.specs.Contents.{isLaidOut}
 use Rattle.contents.proofs.Answers.{passed, stopped, none-left, left-refused}
 use Rattle.contents.proofs.Laid.{laid-packed, laid-frame}
-use Rattle.bodies.specs.Bodies.{wordsFrom, packedFrom, runIndices, runCount, blockOf, indexed, hasGoodRuns, bodyTests, blockTests, blockLeaves}
+use Rattle.bodies.specs.Bodies.{wordsFrom, packedFrom, runIndices, valueCount, blockOf, indexed, hasGoodRuns, bodyTests, blockTests, blockLeaves}
 
 -- There are as many numbers as are asked for.
 pub length-numbers : (k : ℕ) (bytes : List ℕ) (n : ℕ) → length (numbersOf k bytes n) ≡ n
@@ -82,7 +82,7 @@ module _ (e : Entry) (body : List ℕ) where
   unfolding blockOf
   block-differences k = rw k
 
-  pub block-runs : e .kind ≡ 3 → blockOf e body ≡ decodeOf (wordsFrom body 2048 (runCount e)) (runIndices body)
+  pub block-runs : e .kind ≡ 3 → blockOf e body ≡ decodeOf (wordsFrom body 2048 (valueCount e)) (runIndices body)
   unfolding blockOf
   block-runs k = rw k
 
@@ -185,11 +185,11 @@ module _ (e : Entry) (body : List ℕ) where
   other-done new output k h = (runs-done (other-runs k), h ∙ sym (ap (λ b. pick b (blockOf e body) output) (other-runs k)))
 
   -- In a body of runs every index is looked at.
-  pub runs-runs : e .kind ≡ 3 → hasGoodRuns e body ≡ indexed (runCount e) body
+  pub runs-runs : e .kind ≡ 3 → hasGoodRuns e body ≡ indexed (valueCount e) body
   unfolding hasGoodRuns
   runs-runs k = simp (eq-eqb (e .kind) 3 k)
 
-  pub not-laid : isLaidOut e ≡ false → fileAnswer (bodyTests e body) ≡ BadEntry 0
+  pub not-laid : isLaidOut e ≡ false → fileAnswer (bodyTests e body) ≡ BadBadEntry 0
   not-laid f = stopped _ _ (ap (λ b. eqb (pick b 1 0) 1) f) ∙ ap (λ b. BadEntry (pick b 1 0)) f
 
   module _ (good : isLaidOut e ≡ true) where

@@ -30,16 +30,16 @@ abbrev pub runIndices : (body : List ℕ) → List ℕ
 runIndices body = numbersOf 2 body 1024
 
 -- and the rest of it are run values, of which there are so many.
-abbrev pub runCount : (e : Entry) → ℕ
-runCount e = (e .length - 2048) / 8
+abbrev pub valueCount : (e : Entry) → ℕ
+valueCount e = (e .length - 2048) / 8
 
--- This is the block that an entry and its body stand for.
+-- This is the block that an entry and its body stand for. An entry that is as laid out is of kind 0, 1, 2 or 3, so every other kind is 3 here.
 unfoldable pub blockOf : (e : Entry) (body : List ℕ) → List ℕ
 blockOf e body =
     pick (eqb (e .kind) 0) (unpackOf t64 (e .width) (packedFrom body 0 (e .width)))
     (pick (eqb (e .kind) 1) (unforPackOf t64 (e .width) (packedFrom body 0 (e .width)) (e .reference))
     (pick (eqb (e .kind) 2) (undeltaPackOf t64 (e .width) (packedFrom body 128 (e .width)) (wordsFrom body 0 (lanes t64)))
-    (decodeOf (wordsFrom body 2048 (runCount e)) (runIndices body))))
+    (decodeOf (wordsFrom body 2048 (valueCount e)) (runIndices body))))
 
 -- This test says that every run index of a body is below n.
 abbrev pub indexed : (n : ℕ) (body : List ℕ) → Bool
@@ -47,7 +47,7 @@ indexed n body = eqb (firstBeyond n (runIndices body)) 1024
 
 -- This test says that every run index of a body of runs is below the number of its run values; a body of another kind has none.
 unfoldable pub hasGoodRuns : (e : Entry) (body : List ℕ) → Bool
-hasGoodRuns e body = pick (eqb (e .kind) 3) (indexed (runCount e) body) true
+hasGoodRuns e body = pick (eqb (e .kind) 3) (indexed (valueCount e) body) true
 
 -- These are the tests of one body against its entry. There is one entry and one block here, so the place of 10 and of 13 is 0.
 abbrev pub bodyTests : (e : Entry) (body : List ℕ) → List FileTest
@@ -58,9 +58,10 @@ bodyTests e body =
     ∷ good-runs (pick (hasGoodRuns e body) 1 0) 1
     ∷ []
 
--- Laying a block down tests its output too, and leaves this in it.
+-- Laying a block down tests its output too.
 abbrev pub blockTests : (e : Entry) (body output : List ℕ) → List FileTest
 blockTests e body output = a-block output ∷ bodyTests e body
 
+-- Laying a block down leaves this in its output.
 unfoldable pub blockLeaves : (e : Entry) (body output : List ℕ) → List ℕ
 blockLeaves e body output = left (fileAnswer (blockTests e body output)) (blockOf e body) output

@@ -60,7 +60,7 @@ fn check_length(e: Entry, body: &[u8]) -> FileAnswer
     ensures { λ r. ⌜ (numberOf r ≡ 0 → (isLaidOut e ≡ true) × (length (now (body .entry)) ≡ e .length)) ⌝ }
 {
     if !e.is_laid_out() {
-        return FileAnswer::Entry(0);
+        return FileAnswer::BadEntry(0);
     }
     let size = e.length as usize;
     if body.len() < size {

@@ -9,7 +9,7 @@ use native.Mathlib.Omega.{arith}
 use borrow.Author.Tests.{ne-eqb}
 use Rattle.places.specs.Answers.{unless}
 use Rattle.contents.specs.declared.FileAnswer.{FileAnswer}
-use Rattle.contents.specs.declared.FileAnswer.the-variants.{Done, Block, Cut, Edition, Entry, Over, Beyond, Runs}
+use Rattle.contents.specs.declared.FileAnswer.the-variants.{Done, Block, Cut, Edition, BadEntry, Over, Beyond, Runs}
 use Rattle.contents.specs.Answers.{FileTest, a-block, enough, an-edition, laid-out, an-end, a-number, good-runs, passes, refusal, fileAnswer, numberOf, left}
 
 module _ (x : FileTest) (xs : List FileTest) where
@@ -25,7 +25,7 @@ pub none-left : fileAnswer [] ≡ Done
 unfolding fileAnswer
 none-left = refl
 
--- Where the tests in front are done, those behind them decide.
+-- No refusal is Done.
 pub refusal-not-done : (x : FileTest) → refusal x ≡ Done → ⊥
 refusal-not-done (a-block output) e = let z : _≡_ {A = ℕ} 0 1 = cc in omega arith
 refusal-not-done (enough needed there) e = let z : _≡_ {A = ℕ} 0 1 = cc in omega arith
@@ -35,6 +35,7 @@ refusal-not-done (an-end end there) e = let z : _≡_ {A = ℕ} 0 1 = cc in omeg
 refusal-not-done (a-number number count) e = let z : _≡_ {A = ℕ} 0 1 = cc in omega arith
 refusal-not-done (good-runs lowest count) e = let z : _≡_ {A = ℕ} 0 1 = cc in omega arith
 
+-- Where the tests in front are done, those behind them decide.
 pub in-front-done : (xs ys : List FileTest) → fileAnswer xs ≡ Done → fileAnswer (xs ++ ys) ≡ fileAnswer ys
 in-front-done [] ys e = refl
 in-front-done (x ∷ xs) ys e = go (passes x) refl (in-front-done xs ys)
@@ -63,7 +64,7 @@ number-done Done e = refl
 number-done Block e = absurd (omega arith)
 number-done Cut e = absurd (omega arith)
 number-done Edition e = absurd (omega arith)
-number-done (Entry p) e = absurd (omega arith)
+number-done (BadEntry p) e = absurd (omega arith)
 number-done Over e = absurd (omega arith)
 number-done Beyond e = absurd (omega arith)
 number-done (Runs p) e = absurd (omega arith)

@@ -9,7 +9,7 @@ use lib.Dec.{eqb, leb}
 use lib.ListN.{length}
 use borrow.Author.Tests.{le-leb, lt-leb, eq-eqb, ne-eqb}
 use Rattle.places.specs.Pick.{both}
-use Rattle.contents.specs.declared.FileAnswer.the-variants.{Done, Cut, Edition, Entry, Over}
+use Rattle.contents.specs.declared.FileAnswer.the-variants.{Done, Cut, Edition, BadEntry, Over}
 use Rattle.contents.specs.Answers.{enough, an-edition, an-end, fileAnswer}
 use Rattle.contents.specs.Contents.{edition, count, contentsSize, badEntry, bodyStart, entriesTests, contentsTests}
 use Rattle.contents.proofs.Answers.{passed, stopped, none-left}
@@ -45,7 +45,7 @@ module _ (l : List ℕ) (size : ℕ) where
       pub entries-there : contentsSize (count l) ≤ length l → fileAnswer (contentsTests l size) ≡ fileAnswer (entriesTests l size)
       entries-there s = edition-right ∙ passed _ _ (le-leb (contentsSize (count l)) (length l) s)
 
-  pub bad-entries : badEntry l < count l → fileAnswer (entriesTests l size) ≡ Entry (badEntry l)
+  pub bad-entries : badEntry l < count l → fileAnswer (entriesTests l size) ≡ BadEntry (badEntry l)
   bad-entries h = stopped _ _ (ne-eqb (badEntry l) (count l) (λ e. omega arith))
 
   module _ (good : badEntry l ≡ count l) where

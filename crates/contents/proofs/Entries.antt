@@ -7,7 +7,7 @@ use native.Mathlib.Nat.{add-zero, add-suc}
 use native.Mathlib.Omega.{arith}
 use lib.ListN.{length}
 use borrow.Author.Tests.{le-leb, lt-leb}
-use Rattle.contents.specs.Contents.{contentsSize, entryOf, noEntry, entryOr, bodies}
+use Rattle.contents.specs.Contents.{contentsSize, entryOf, noEntry, entryOr, bodiesSize}
 
 module _ (l : List ℕ) (i : ℕ) where
   pub entry-there : contentsSize (suc i) ≤ length l → entryOr l i ≡ entryOf l i
@@ -18,16 +18,16 @@ module _ (l : List ℕ) (i : ℕ) where
   unfolding entryOr
   entry-missing h = simp (lt-leb (contentsSize (suc i)) (length l) h)
 
-grow : (l : List ℕ) (k m : ℕ) → bodies l k ≤ bodies l (k + m)
-unfolding bodies
+grow : (l : List ℕ) (k m : ℕ) → bodiesSize l k ≤ bodiesSize l (k + m)
+unfolding bodiesSize
 grow l k zero = rw add-zero (omega arith)
 grow l k (suc m) = rw add-suc (omega (arith, grow l k m))
 
 -- The body of a block ends within all of them.
-pub bodies-within : (l : List ℕ) (b n : ℕ) → b < n → bodies l b + entryOf l b .length ≤ bodies l n
-unfolding bodies
+pub bodies-within : (l : List ℕ) (b n : ℕ) → b < n → bodiesSize l b + entryOf l b .length ≤ bodiesSize l n
+unfolding bodiesSize
 bodies-within l b n h =
     let e : suc b + (n - suc b) ≡ n = omega arith in
-    let g : bodies l (suc b) ≤ bodies l (suc b + (n - suc b)) = grow l (suc b) (n - suc b) in
-    let q : bodies l (suc b + (n - suc b)) ≡ bodies l n = ap (bodies l) e in
+    let g : bodiesSize l (suc b) ≤ bodiesSize l (suc b + (n - suc b)) = grow l (suc b) (n - suc b) in
+    let q : bodiesSize l (suc b + (n - suc b)) ≡ bodiesSize l n = ap (bodiesSize l) e in
     omega arith

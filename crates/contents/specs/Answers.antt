@@ -9,7 +9,7 @@ use lib.ListN.{length}
 use Rattle.places.specs.Answers.{firstRefusal}
 use Rattle.places.specs.Pick.{pick, both}
 use Rattle.contents.specs.declared.FileAnswer.{FileAnswer}
-use Rattle.contents.specs.declared.FileAnswer.the-variants.{Done, Block, Cut, Edition, Entry, Over, Beyond, Runs}
+use Rattle.contents.specs.declared.FileAnswer.the-variants.{Done, Block, Cut, Edition, BadEntry, Over, Beyond, Runs}
 
 -- Each case of an answer has a number.
 abbrev pub numberOf : FileAnswer → ℕ
@@ -17,7 +17,7 @@ numberOf Done = 0
 numberOf Block = 2
 numberOf Cut = 8
 numberOf Edition = 9
-numberOf (Entry p) = 10
+numberOf (BadEntry p) = 10
 numberOf Over = 11
 numberOf Beyond = 12
 numberOf (Runs p) = 13
@@ -28,7 +28,7 @@ placeOf Done = 0
 placeOf Block = 0
 placeOf Cut = 0
 placeOf Edition = 0
-placeOf (Entry p) = p
+placeOf (BadEntry p) = p
 placeOf Over = 0
 placeOf Beyond = 0
 placeOf (Runs p) = p
@@ -41,13 +41,13 @@ pub data FileTest : Type 0 where
   enough : (needed there : ℕ) → FileTest
   -- The edition is 1, and there are at most 256 blocks.
   an-edition : (edition count : ℕ) → FileTest
-  -- Every entry is as laid out: the lowest one that is not is none of them.
+  -- Every entry is as laid out. `lowest` is the lowest that is not, and the count where there is none.
   laid-out : (lowest count : ℕ) → FileTest
   -- No byte stands after the last body.
   an-end : (end there : ℕ) → FileTest
   -- The number of a row or of a block is below their count.
-  a-number : (number count : ℕ) → FileTest
-  -- Every run index is in range: the lowest block that has another is none of them.
+  a-number : (asked count : ℕ) → FileTest
+  -- Every run index is in range. `lowest` is the lowest block that has another one, and the count where there is none.
   good-runs : (lowest count : ℕ) → FileTest
 
 -- This is the test itself.
@@ -57,7 +57,7 @@ passes (enough needed there) = leb needed there
 passes (an-edition edition count) = both (eqb edition 1) (leb count 256)
 passes (laid-out lowest count) = eqb lowest count
 passes (an-end end there) = leb there end
-passes (a-number number count) = ltb number count
+passes (a-number asked count) = ltb asked count
 passes (good-runs lowest count) = eqb lowest count
 
 -- This is the refusal where it fails.
@@ -65,9 +65,9 @@ abbrev pub refusal : FileTest → FileAnswer
 refusal (a-block output) = Block
 refusal (enough needed there) = Cut
 refusal (an-edition edition count) = Edition
-refusal (laid-out lowest count) = Entry lowest
+refusal (laid-out lowest count) = BadEntry lowest
 refusal (an-end end there) = Over
-refusal (a-number number count) = Beyond
+refusal (a-number asked count) = Beyond
 refusal (good-runs lowest count) = Runs lowest
 
 -- A call that makes these tests answers with the first refusal of the list, and where every test passes it is done.

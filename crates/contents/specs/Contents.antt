@@ -73,13 +73,13 @@ unfoldable pub badEntry : List ℕ → ℕ
 badEntry l = firstBad (count l) (λ i. isLaidOut (entryOf l i))
 
 -- The bodies of the first n entries have so many bytes.
-unfoldable pub bodies : (l : List ℕ) (n : ℕ) → ℕ
-bodies l zero = 0
-bodies l (suc n) = bodies l n + entryOf l n .length
+unfoldable pub bodiesSize : (l : List ℕ) (n : ℕ) → ℕ
+bodiesSize l zero = 0
+bodiesSize l (suc n) = bodiesSize l n + entryOf l n .length
 
 -- Body i begins behind the contents and the bodies before it, so the file ends where body number `count` would begin.
 unfoldable pub bodyStart : (l : List ℕ) (i : ℕ) → ℕ
-bodyStart l i = contentsSize (count l) + bodies l i
+bodyStart l i = contentsSize (count l) + bodiesSize l i
 
 -- These are the tests of the entries, for a file of `size` bytes of which l is the front.
 abbrev pub entriesTests : (l : List ℕ) (size : ℕ) → List FileTest
@@ -97,9 +97,9 @@ contentsTests l size =
     ∷ enough (contentsSize (count l)) (length l)
     ∷ entriesTests l size
 
--- Where entry i is not all there, this stands for it.
+-- Where entry i is not all there, this stands for it. It is of no kind, so it is not as laid out.
 abbrev pub noEntry : Entry
-noEntry = record { kind = 0; width = 0; zero = 0; length = 0; reference = 0 }
+noEntry = record { kind = 255; width = 0; zero = 0; length = 0; reference = 0 }
 
 -- This is entry i where its bytes are all there, and else no entry.
 unfoldable pub entryOr : (l : List ℕ) (i : ℕ) → Entry

@@ -8,9 +8,9 @@ use little::quad;
 use little::word;
 ghost use mathlib.Core.Path.{_≡_};
 ghost use Prim.Native.Nat.{_+_, _*_, _≤_};
-ghost use lib.ListN.{length, getD};
+ghost use lib.ListN.{length};
 ghost use Rattle.contents.specs.Answers.{numberOf, placeOf, fileAnswer};
-ghost use Rattle.contents.specs.Contents.{count as countIn, contentsSize, entryAt, entryOf, entryOr, countOr, isPacked, isRuns, isOfKind, isLaidOut, bodies, entriesTests, contentsTests};
+ghost use Rattle.contents.specs.Contents.{count as countIn, contentsSize, entryOf, entryOr, countOr, isPacked, isRuns, isOfKind, isLaidOut, bodiesSize, entriesTests, contentsTests};
 ghost use Rattle.contents.specs.First.{firstBad};
 
 // What a call on a file answers: that it is done, or why it is refused.
@@ -23,7 +23,7 @@ pub enum FileAnswer {
     // the edition is not 1, or there are more than 256 blocks
     Edition,
     // an entry is not as laid out; the lowest such entry
-    Entry(usize),
+    BadEntry(usize),
     // there are bytes after the last body
     Over,
     // there is no block, or no row, with this number
@@ -42,7 +42,7 @@ impl FileAnswer {
             FileAnswer::Block => 2,
             FileAnswer::Cut => 8,
             FileAnswer::Edition => 9,
-            FileAnswer::Entry(_) => 10,
+            FileAnswer::BadEntry(_) => 10,
             FileAnswer::Over => 11,
             FileAnswer::Beyond => 12,
             FileAnswer::Runs(_) => 13,
@@ -54,7 +54,7 @@ impl FileAnswer {
         ensures { λ r. ⌜ r ≡ placeOf self ⌝ }
     {
         match self {
-            FileAnswer::Entry(p) => p,
+            FileAnswer::BadEntry(p) => p,
             FileAnswer::Runs(p) => p,
             FileAnswer::Done => 0,
             FileAnswer::Block => 0,
@@ -117,7 +117,7 @@ pub fn count(front: &[u8]) -> usize
     pair(front, 2) as usize
 }
 
-// Entry i; all its fields are 0 where it is not all there.
+// Entry i. Where it is not all there, an entry of no kind stands for it, which no body is right for.
 pub fn entry_or(front: &[u8], i: usize) -> Entry
     ensures { λ r. ⌜ r ≡ entryOr (now (front .entry)) i ⌝ }
 {
@@ -127,7 +127,7 @@ pub fn entry_or(front: &[u8], i: usize) -> Entry
         }
     }
     Entry {
-        kind: 0,
+        kind: 255,
         width: 0,
         zero: 0,
         length: 0,
@@ -179,7 +179,7 @@ fn check_entries(front: &[u8], n: usize, size: usize) -> FileAnswer
 {
     let lowest = bad_entry(front, n);
     if lowest < n {
-        return FileAnswer::Entry(lowest);
+        return FileAnswer::BadEntry(lowest);
     }
     let end = 4 + n * 16 + bodies_of(front, n);
     if size < end {
@@ -213,7 +213,7 @@ fn bad_entry(front: &[u8], n: usize) -> usize
 fn bodies_of(front: &[u8], n: usize) -> usize
     requires { ⌜ contentsSize n ≤ length (now front) ⌝ }
     requires { ⌜ n ≤ 256 ⌝ }
-    ensures { λ r. ⌜ (r ≡ bodies (now (front .entry)) n) × (r ≤ 4294967296 * n) ⌝ }
+    ensures { λ r. ⌜ (r ≡ bodiesSize (now (front .entry)) n) × (r ≤ 4294967296 * n) ⌝ }
 {
     let mut sum = 0;
     let mut i = 0;

@@ -14,7 +14,7 @@ use Rattle.little.proofs.Little.{little-within}
 use Rattle.contents.specs.declared.FileAnswer.{FileAnswer}
 use Rattle.contents.specs.declared.FileAnswer.the-variants.{Done, Runs}
 use Rattle.contents.specs.Answers.{FileTest, good-runs, fileAnswer, numberOf, left}
-use Rattle.contents.specs.Contents.{count, countOr, contentsSize, entryOf, entryOr, isLaidOut, bodies, bodyStart, contentsTests}
+use Rattle.contents.specs.Contents.{count, countOr, contentsSize, entryOf, entryOr, isLaidOut, bodiesSize, bodyStart, contentsTests}
 use Rattle.contents.proofs.Accepted.{Whole, accepted, done-first, done-front}
 use Rattle.contents.proofs.Answers.{passed, stopped, none-left}
 use Rattle.contents.proofs.First.{first-only, first-before}
@@ -60,11 +60,11 @@ module _ (l : List ℕ) (done : fileAnswer (contentsTests l (length l)) ≡ Done
 
   -- where the next body begins
   pub next-start : (i : ℕ) → bodyStart l (suc i) ≡ bodyStart l i + entryOf l i .length
-  unfolding bodyStart bodies
+  unfolding bodyStart bodiesSize
   next-start i = omega arith
 
   pub first-start : bodyStart l 0 ≡ contentsSize (count l)
-  unfolding bodyStart bodies
+  unfolding bodyStart bodiesSize
   first-start = omega arith
 
 -- what the number of that test tells

@@ -20,7 +20,7 @@ use Rattle.places.proofs.Tests.{false-true}
 use Rattle.little.specs.Little.{little, numbersOf}
 use Rattle.contents.specs.declared.Entry.{Entry}
 use Rattle.contents.specs.declared.FileAnswer.{FileAnswer}
-use Rattle.contents.specs.declared.FileAnswer.the-variants.{Done, Block, Cut, Edition, Entry as BadEntry, Over, Beyond, Runs}
+use Rattle.contents.specs.declared.FileAnswer.the-variants.{Done, Block, Cut, Edition, BadEntry, Over, Beyond, Runs}
 use Rattle.contents.specs.Answers.{FileTest, a-block, a-number, good-runs, fileAnswer, numberOf}
 use Rattle.contents.specs.Contents.{edition, count, contentsSize, entryOf, isLaidOut, badEntry, bodyStart, entriesTests, contentsTests}
 use Rattle.contents.specs.First.{firstBad}
@@ -30,7 +30,7 @@ use Rattle.contents.proofs.Answers.{passed, stopped, none-left, in-front-done, 
 use Rattle.contents.proofs.Checks as Checks
 use Rattle.contents.proofs.First.{first-only, first-le, first-before, first-at}
 use Rattle.contents.proofs.Laid.{laid-plain}
-use Rattle.bodies.specs.Bodies.{hasGoodRuns, runIndices, runCount}
+use Rattle.bodies.specs.Bodies.{hasGoodRuns, runIndices, valueCount}
 use Rattle.files.specs.Files.{bodyOf, badRuns, rowCount, fileTests, blockTests, rowTests}
 use Rattle.files.specs.Plain.{GoodRuns, Headed, LaidTo, GoodTo, Right, Reason, BlockReason, RowReason}
 use Rattle.files.specs.Plain.{short-head, other-edition, short-entries, bad-entry, short-bodies, left-over, bad-runs, none}
@@ -49,12 +49,12 @@ runs-plain e body = go (eqb (e .kind) 3) refl
     long : length (tab 1024 (λ i. little body (i * 2) 2)) ≡ 1024
     long = length-tab 1024 (λ i. little body (i * 2) 2)
 
-    go : (t : Bool) → eqb (e .kind) 3 ≡ t → (pick t (eqb (firstBeyond (runCount e) (tab 1024 (λ i. little body (i * 2) 2))) 1024) true ≡ true) ↔ GoodRuns e body
+    go : (t : Bool) → eqb (e .kind) 3 ≡ t → (pick t (eqb (firstBeyond (valueCount e) (tab 1024 (λ i. little body (i * 2) 2))) 1024) true ≡ true) ↔ GoodRuns e body
     go true k = (
-      (λ h _ i l. subst (λ n. n < runCount e) (index i l)
-          (first-beyond-none (runCount e) (tab 1024 (λ i. little body (i * 2) 2)) .0 (eqb-true _ 1024 h ∙ sym long) i (omega (arith, long)))),
-      (λ g. eq-eqb _ 1024 (first-beyond-none (runCount e) (tab 1024 (λ i. little body (i * 2) 2)) .1
-          (λ i l. subst (λ n. n < runCount e) (sym (index i (omega (arith, long)))) (g (eqb-true (e .kind) 3 k) i (omega (arith, long)))) ∙ long)),
+      (λ h _ i l. subst (λ n. n < valueCount e) (index i l)
+          (first-beyond-none (valueCount e) (tab 1024 (λ i. little body (i * 2) 2)) .0 (eqb-true _ 1024 h ∙ sym long) i (omega (arith, long)))),
+      (λ g. eq-eqb _ 1024 (first-beyond-none (valueCount e) (tab 1024 (λ i. little body (i * 2) 2)) .1
+          (λ i l. subst (λ n. n < valueCount e) (sym (index i (omega (arith, long)))) (g (eqb-true (e .kind) 3 k) i (omega (arith, long)))) ∙ long)),
     )
     go false k = ((λ _ q. absurd (eqb-false (e .kind) 3 k q)), (λ _. refl))
 

@@ -15,7 +15,7 @@ use Rattle.deltas.specs.Deltas.{unforPackOf}
 use Rattle.little.specs.Little.{little}
 use Rattle.contents.specs.declared.FileAnswer.the-variants.{Done}
 use Rattle.contents.specs.Answers.{fileAnswer, left}
-use Rattle.contents.specs.Contents.{count, entryOf, isOfKind, isLaidOut, badEntry, bodies, bodyStart}
+use Rattle.contents.specs.Contents.{count, entryOf, isOfKind, isLaidOut, badEntry, bodiesSize, bodyStart}
 use Rattle.contents.specs.First.{firstFrom, firstBad}
 use Rattle.bodies.specs.Bodies.{blockOf, hasGoodRuns}
 use Rattle.files.specs.declared.Row.the-variants.{Value, Refused}
@@ -59,7 +59,7 @@ oneOfSevens = 1 ∷ 0 ∷ 1 ∷ 0 ∷ 1 ∷ 0 ∷ 0 ∷ 0 ∷ 0 ∷ 0 ∷ 0 ∷ 
 
 -- Both are accepted.
 pub worked-accepted : (fileAnswer (fileTests noBlocks) ≡ Done) × (fileAnswer (fileTests oneOfSevens) ≡ Done)
-unfolding fileAnswer little badEntry badRuns firstBad firstFrom isLaidOut isOfKind entryOf bodyStart bodies hasGoodRuns
+unfolding fileAnswer little badEntry badRuns firstBad firstFrom isLaidOut isOfKind entryOf bodyStart bodiesSize hasGoodRuns
 worked-accepted = (refl, refl)
 
 -- The first has no rows,

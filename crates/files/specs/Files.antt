@@ -4,15 +4,13 @@
 use mathlib.Core.List.{List, [], _∷_, _++_}
 use Prim.Native.Nat.{ℕ, _*_, _/_, _%_}
 use lib.ListN.{length, getD, take, drop}
-use Rattle.places.specs.Pick.{pick}
 use Rattle.places.specs.Tab.{tab}
-use Rattle.contents.specs.declared.FileAnswer.{FileAnswer}
-use Rattle.contents.specs.Answers.{FileTest, a-block, a-number, good-runs, fileAnswer, isDone, left}
+use Rattle.contents.specs.Answers.{FileTest, a-block, a-number, good-runs, fileAnswer, left}
 use Rattle.contents.specs.Contents.{count, entryOf, bodyStart, contentsTests}
 use Rattle.contents.specs.First.{firstBad}
 use Rattle.bodies.specs.Bodies.{blockOf, hasGoodRuns}
 
--- Body i has as many bytes as its entry says.
+-- Body i stands behind the contents and the bodies before it, and has as many bytes as its entry says.
 unfoldable pub bodyOf : (l : List ℕ) (i : ℕ) → List ℕ
 bodyOf l i = take (entryOf l i .length) (drop (bodyStart l i) l)
 

@@ -9,7 +9,7 @@ use lib.ListN.{length}
 use Rattle.little.specs.Little.{little}
 use Rattle.contents.specs.declared.Entry.{Entry}
 use Rattle.contents.specs.declared.FileAnswer.{FileAnswer}
-use Rattle.contents.specs.declared.FileAnswer.the-variants.{Done, Block, Cut, Edition, Entry as BadEntry, Over, Beyond, Runs}
+use Rattle.contents.specs.declared.FileAnswer.the-variants.{Done, Block, Cut, Edition, BadEntry, Over, Beyond, Runs}
 use Rattle.contents.specs.Contents.{edition, count, contentsSize, entryOf, bodyStart}
 use Rattle.contents.specs.Plain.{LaidOut}
 use Rattle.files.specs.Files.{bodyOf, rowCount}

@@ -5,7 +5,7 @@ use contents::FileAnswer;
 use contents::count;
 use contents::entry_or;
 ghost use mathlib.Core.Path.{_≡_};
-ghost use Prim.Native.Nat.{_≤_, _<_};
+ghost use Prim.Native.Nat.{_<_};
 ghost use lib.ListN.{length};
 ghost use Rattle.contents.specs.declared.FileAnswer.the-variants.{Done};
 ghost use Rattle.contents.specs.Answers.{fileAnswer, good-runs};

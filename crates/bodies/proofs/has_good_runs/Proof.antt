@@ -5,7 +5,7 @@ use native.Mathlib.Omega.{arith}
 use denote.Ref.{now}
 use lib.Dec.{ltb}
 use Rattle.contents.proofs.Laid.{laid-runs}
-use Rattle.bodies.specs.Bodies.{runCount}
+use Rattle.bodies.specs.Bodies.{valueCount}
 use Rattle.bodies.proofs.Bodies.{indexed-high, other-runs, runs-runs}
 use Rattle.bodies.proofs.has_good_runs.Statement.{statement}
 use Rattle.bodies.proofs.has_good_runs.Tie as tie
@@ -31,7 +31,7 @@ returns-2 c =
     let args = kind .before .before .before .args in
     let e = args .e in
     let body = now (args .body) in
-    ap (λ x. ltb x (runCount e)) (c .highest-index .ensures) ∙ sym (runs-runs e body (kind .if1 .left) ∙ indexed-high (runCount e) body)
+    ap (λ x. ltb x (valueCount e)) (c .highest-index .ensures) ∙ sym (runs-runs e body (kind .if1 .left) ∙ indexed-high (valueCount e) body)
 
 pub has-good-runs-spec : {M : Type 1} → statement M
 has-good-runs-spec = tie.close (tie.spec returns sub-n highest-index-requires returns-2)

@@ -5,18 +5,18 @@ use Prim.Native.Nat.{_+_, _*_, _-_, _≤_}
 use native.Mathlib.Numerals.{add-one}
 use native.Mathlib.Omega.{arith}
 use borrow.Author.Needs.{needs}
-use Rattle.contents.specs.Contents.{bodies, entryOf}
+use Rattle.contents.specs.Contents.{bodiesSize, entryOf}
 use Rattle.contents.proofs.bodies_of.Statement.{statement}
 use Rattle.contents.proofs.bodies_of.Tie as tie
 
 abbrev Inv-loop : tie.InvT-loop
-Inv-loop front n sum₀ i₀ sum i = (i ≤ n) × (sum ≡ bodies front i) × (sum ≤ 4294967296 * i)
+Inv-loop front n sum₀ i₀ sum i = (i ≤ n) × (sum ≡ bodiesSize front i) × (sum ≤ 4294967296 * i)
 
 abbrev μ-loop : tie.MeasureT-loop
 μ-loop front n sum₀ i₀ sum i = n - i
 
 loop-holds : tie.Need-loop-holds Inv-loop μ-loop
-unfolding bodies
+unfolding bodiesSize
 loop-holds c = search needs
 
 entry-of-requires : tie.Need-entry-of-requires Inv-loop μ-loop
@@ -35,11 +35,11 @@ loop-less : tie.Need-loop-less Inv-loop μ-loop
 loop-less c = search needs
 
 loop-again : tie.Need-loop-again Inv-loop μ-loop
-unfolding bodies
+unfolding bodiesSize
 loop-again c =
     let loop = c .before .before .before .loop in (
       omega arith,
-      ap₂ _+_ (loop .inv .1) (ap (λ e. e .length) (c .before .entry-of .ensures)) ∙ sym (ap (bodies _) (add-one (loop .i))),
+      ap₂ _+_ (loop .inv .1) (ap (λ e. e .length) (c .before .entry-of .ensures)) ∙ sym (ap (bodiesSize _) (add-one (loop .i))),
       omega arith,
     )
 

@@ -5,8 +5,8 @@ use Prim.Native.Nat.{_+_, _*_, _≤_, _<_}
 use native.Mathlib.Omega.{arith}
 use denote.Ref.{now}
 use borrow.Author.Needs.{needs}
-use Rattle.contents.specs.declared.FileAnswer.the-variants.{Entry}
-use Rattle.contents.specs.Contents.{count, entryOf, isLaidOut, badEntry, bodies, bodyStart}
+use Rattle.contents.specs.declared.FileAnswer.the-variants.{BadEntry}
+use Rattle.contents.specs.Contents.{count, entryOf, isLaidOut, badEntry, bodiesSize, bodyStart}
 use Rattle.contents.specs.First.{firstBad}
 use Rattle.contents.proofs.Checks.{bad-entries, short-bodies, left-over, entries-done}
 use Rattle.contents.proofs.First.{first-le}
@@ -34,7 +34,7 @@ unfolding bodyStart
 end c =
     let start = c .before .before .before .before in
     let l = now (start .args .front) in
-    ap₂ (λ n b. 4 + n * 16 + b) (start .pre .0) (c .bodies-of .ensures .0 ∙ ap (bodies l) (start .pre .0))
+    ap₂ (λ n b. 4 + n * 16 + b) (start .pre .0) (c .bodies-of .ensures .0 ∙ ap (bodiesSize l) (start .pre .0))
 
 -- no entry is bad
 none : (c : tie.After-bodies-of) → badEntry (now (c .before .before .before .before .args .front)) ≡ count (now (c .before .before .before .before .args .front))
@@ -46,7 +46,7 @@ returns : tie.Need-returns
 returns c =
     let at = c .before in
     let l = now (at .before .before .args .front) in
-    ap Entry (lowest at) ∙ sym (bad-entries l _ (omega (arith, lowest at, at .before .before .pre .0, c .if1 .taken)))
+    ap BadEntry (lowest at) ∙ sym (bad-entries l _ (omega (arith, lowest at, at .before .before .pre .0, c .if1 .taken)))
 
 mul-end : tie.Need-mul-end
 mul-end c = search needs
