@@ -5,7 +5,7 @@
 //     op        the call, numbered as in docs/CASES.md; 255 is a turn that makes no call
 //     t         the element size: 8, 16, 32 or 64
 //     width     the width, for the calls that take one
-//     start     the first value of the input block
+//     start     the first value of the input block; for the calls on a column file see column_files
 //     step      from each value to the next, modulo 256
 //     turns     how often to call again after the first call: three bytes, the lowest first
 //
