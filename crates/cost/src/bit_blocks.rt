@@ -3,13 +3,13 @@ use crate::Outcome;
 use crate::Request;
 use crate::UNKNOWN;
 use crate::element::byte_to_u64;
-use bits::Block;
+use bits::BitBlock;
 
 // Makes the call that the request names, turn after turn, the first one before the loop as in the modules of the sizes.
 pub fn run(request: Request) -> Outcome {
     let op = request.op;
     let t = request.t;
-    let first: Block = [byte_to_u64(request.start); 16];
+    let first: BitBlock = [byte_to_u64(request.start); 16];
     let mut block = once(op, t, first);
     let mut turns = request.turns;
     while turns > 0 {
@@ -34,7 +34,7 @@ fn answer(op: u8, t: u8) -> usize {
 }
 
 // One turn.
-fn once(op: u8, t: u8, block: Block) -> Block {
+fn once(op: u8, t: u8, block: BitBlock) -> BitBlock {
     if op == 14 {
         return bits::untranspose_bits(block);
     }

@@ -5,7 +5,7 @@
 //     op        the call, numbered as in docs/CASES.md; 255 is a turn that makes no call
 //     t         the element size: 8, 16, 32 or 64
 //     width     the width, for the calls that take one
-//     start     the first value of the input block
+//     start     the first value of the input block; for the calls on a column file see column_files
 //     step      from each value to the next, modulo 256
 //     turns     how often to call again after the first call: three bytes, the lowest first
 //
@@ -13,9 +13,10 @@
 // the sum of the elements that the last call left. So no call and no part of a call can be left out by the compiler,
 // and all that a call takes is known at run time only.
 //
-// Here the request is read and the line is printed. The modules t8, t16, t32 and t64 make the calls, bit_blocks those on bit blocks, and element turns
-// bytes into elements and these into numbers.
+// Here the request is read and the line is printed. The modules t8, t16, t32 and t64 make the calls, bit_blocks those on bit blocks,
+// column_files those on column files, and element turns bytes into elements and these into numbers.
 mod bit_blocks;
+mod column_files;
 mod element;
 mod t16;
 mod t32;
@@ -88,6 +89,9 @@ fn run(request: Request) -> Outcome {
     let op = request.op;
     if op == 13 || op == 14 {
         return bit_blocks::run(request);
+    }
+    if op == 16 || op == 17 {
+        return column_files::run(request);
     }
     let t = request.t;
     match t {

@@ -1,0 +1,31 @@
+-- `cost::column_files::size` meets its contract: a count that is at most the length counts elements.
+-- Assumes nothing.
+use borrow.Author.Needs.{needs}
+use Rattle.io.proofs.Counting.{counts}
+use Rattle.cost.proofs.column_files.size.Statement.{statement}
+use Rattle.cost.proofs.column_files.size.Tie as tie
+
+byte-to-usize-requires : tie.Need-byte-to-usize-requires
+byte-to-usize-requires c κs = search needs
+
+mul-n : tie.Need-mul-n
+mul-n c = search needs
+
+add-n : tie.Need-add-n
+add-n c = search needs
+
+body-requires : tie.Need-body-requires
+body-requires c κs = search needs
+
+add-n-2 : tie.Need-add-n-2
+add-n-2 c = search needs
+
+returns : tie.Need-returns
+returns c = counts _ _ (c .if2 .taken)
+
+returns-2 : tie.Need-returns-2
+returns-2 c = search needs
+
+pub size-spec : {M : Type 1} → statement M
+size-spec =
+    tie.close (tie.spec byte-to-usize-requires mul-n add-n body-requires add-n-2 returns returns-2)
