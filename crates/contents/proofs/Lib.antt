@@ -3,4 +3,5 @@ pub mod Answers
 pub mod Checks
 pub mod Entries
 pub mod First
+pub mod Fronts
 pub mod Laid
