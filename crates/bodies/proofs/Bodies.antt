@@ -2,12 +2,12 @@
 -- Assumes nothing.
 use mathlib.Core.Bool.{Bool, true, false}
 use mathlib.Core.List.{List, [], _∷_}
-use mathlib.Core.Path.{_≡_, refl, sym, ap, ap₂, _∙_}
+use mathlib.Core.Path.{_≡_, refl, sym, ap, ap₂, _∙_, subst}
 use Prim.Native.Nat.{ℕ, _+_, _*_, _-_, _≤_, _<_}
 use native.Mathlib.Decide.{decLe}
 use native.Mathlib.Omega.{arith}
 use lib.Dec.{eqb, ltb}
-use lib.ListN.{length, take, drop, replicate, length-drop}
+use lib.ListN.{length, take, drop, replicate, length-drop, length-replicate}
 use lib.Seq.{take-all, length-take-le}
 use borrow.Author.Tests.{le-leb, lt-leb, lt-ltb, le-ltb, eq-eqb, ne-eqb}
 use Rattle.places.specs.declared.Answer.the-variants.{Done as NoRefusal, Dictionary}
@@ -55,9 +55,9 @@ words-read body words at n l h =
     let rest : take (length body - at) (drop at body) ≡ drop at body = take-all (length body - at) (drop at body) (omega (arith, length-drop at body)) in
     ap (λ part. readLeaves 8 part words) rest ∙ numbers-read 8 (drop at body) words n l (omega (arith, length-drop at body))
 
--- The part of an array of 1,024 zeros that ends before place n has n places.
-pub lent : (n : ℕ) → n ≤ 1024 → length (take n (replicate {A = ℕ} 1024 0)) ≡ n
-lent n h = length-take-le n (replicate 1024 0) h
+-- The part of an array of m zeros that ends before place n has n places.
+pub lent : (m n : ℕ) → n ≤ m → length (take n (replicate {A = ℕ} m 0)) ≡ n
+lent m n h = length-take-le n (replicate m 0) (subst (λ k. n ≤ k) (sym (length-replicate m 0)) h)
 
 -- An entry of kind 0 or 1 that is as laid out has a width of at most 64, and the length that it asks for.
 pub laid-plain : (e : Entry) → isLaidOut e ≡ true → e .kind < 2 → (e .width ≤ 64) × (e .length ≡ 128 * e .width)
@@ -189,7 +189,7 @@ module _ (e : Entry) (body : List ℕ) where
   unfolding hasGoodRuns
   runs-runs k = simp (eq-eqb (e .kind) 3 k)
 
-  pub not-laid : isLaidOut e ≡ false → fileAnswer (bodyTests e body) ≡ BadBadEntry 0
+  pub not-laid : isLaidOut e ≡ false → fileAnswer (bodyTests e body) ≡ BadEntry 0
   not-laid f = stopped _ _ (ap (λ b. eqb (pick b 1 0) 1) f) ∙ ap (λ b. BadEntry (pick b 1 0)) f
 
   module _ (good : isLaidOut e ≡ true) where

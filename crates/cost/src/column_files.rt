@@ -7,7 +7,7 @@ use crate::element::byte_to_usize;
 ghost use Prim.Native.Nat.{_<_};
 ghost use Rattle.io.specs.Counts.{Counts};
 
-// The longest file is one block of 1,024 run values.
+// The longest file is that of 256 entries.
 type File = [u8; 10260];
 
 type Block = [u64; 1024];
@@ -78,7 +78,7 @@ fn size(request: Request, file: &[u8]) -> usize
     if n <= file.len() { n } else { 0 }
 }
 
-// The length of the block's body. Of run values there are 1,024, as many as decode has when it is counted by itself.
+// The length of the block's body. Of run values there are 16: such a body is as long as a packed one of width 17.
 fn body(request: Request) -> usize
     ensures { λ r. ⌜ r < 65536 ⌝ }
 {
@@ -88,7 +88,7 @@ fn body(request: Request) -> usize
     let kind = request.start;
     match kind {
         2 => 128 + 128 * request.width,
-        3 => 2048 + 8 * 1024,
+        3 => 2048 + 8 * 16,
         _ => 128 * request.width,
     }
 }

@@ -18,12 +18,12 @@ array-borrow-prefix-words : tie.Need-array-borrow-prefix-words
 array-borrow-prefix-words c = search needs
 
 slice-aggregate-differences-through-2 : tie.Need-slice-aggregate-differences-through-2
-slice-aggregate-differences-through-2 c = sym (lent _ (omega arith))
+slice-aggregate-differences-through-2 c = sym (lent 1024 _ (omega arith))
 
 differences-through-requires : tie.Need-differences-through-requires
 differences-through-requires c κs =
     let w = c .before .before .before .before .before .args .width in
-    (search needs, (search needs, (search needs, (lent (w * 16) (omega arith) ∙ omega arith, search needs))))
+    (search needs, (search needs, (search needs, (lent 1024 (w * 16) (omega arith) ∙ omega arith, search needs))))
 
 same-length : tie.Need-same-length
 same-length c = search needs

@@ -18,12 +18,12 @@ array-borrow-prefix-words : tie.Need-array-borrow-prefix-words
 array-borrow-prefix-words c = search needs
 
 slice-aggregate-packed-through : tie.Need-slice-aggregate-packed-through
-slice-aggregate-packed-through c = sym (lent _ (omega arith))
+slice-aggregate-packed-through c = sym (lent 1024 _ (omega arith))
 
 packed-through-requires : tie.Need-packed-through-requires
 packed-through-requires c κs =
     let w = c .before .before .before .before .before .args .e .width in
-    (search needs, (search needs, (lent (w * 16) (omega arith) ∙ omega arith, search needs)))
+    (search needs, (search needs, (lent 1024 (w * 16) (omega arith) ∙ omega arith, search needs)))
 
 same-length : tie.Need-same-length
 same-length c = search needs
