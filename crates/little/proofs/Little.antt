@@ -1,13 +1,14 @@
--- The laws of little-endian numbers: a number is made of its two halves.
+-- The laws of little-endian numbers: a number is made of its two halves, and knows nothing of the bytes before and after its own.
 -- Assumes nothing.
 use mathlib.Core.Bool.{Bool, true, false}
-use mathlib.Core.Path.{_≡_, sym, ap, _∙_}
-use mathlib.Core.List.{List}
-use Prim.Native.Nat.{ℕ, suc, _+_, _*_, _≤_, _<_}
+use mathlib.Core.Path.{_≡_, refl, sym, ap, ap₂, _∙_}
+use mathlib.Core.List.{List, [], _∷_, _++_}
+use Prim.Native.Nat.{ℕ, zero, suc, _+_, _*_, _≤_, _<_}
+use native.Mathlib.Nat.{zero-add, suc-add}
 use native.Mathlib.Decide.{decLe}
 use native.Mathlib.Omega.{arith}
 use lib.Dec.{leb}
-use lib.ListN.{length, getD}
+use lib.ListN.{length, getD, List·getD-append}
 use borrow.Author.Tests.{le-leb, lt-leb}
 use Rattle.places.specs.Pick.{pick}
 use Rattle.little.specs.Little.{little, littleOr, numbersOf, readLeaves}
@@ -37,6 +38,24 @@ unfolding little
 little-eight l at =
     let e : at + 4 ≡ suc (suc (suc (suc at))) = omega arith in
     rw e (omega arith)
+
+-- past a front, whatever it is
+little-cons : (x : ℕ) (l : List ℕ) (at k : ℕ) → little (x ∷ l) (suc at) k ≡ little l at k
+unfolding little
+little-cons x l at zero = refl
+little-cons x l at (suc k) = ap (λ n. getD l at 0 + n * 256) (little-cons x l (suc at) k)
+
+pub little-past : (a b : List ℕ) (at k : ℕ) → little (a ++ b) (length a + at) k ≡ little b at k
+little-past [] b at k = ap (λ n. little b n k) (zero-add at)
+little-past (x ∷ a) b at k =
+    ap (λ n. little (x ∷ (a ++ b)) n k) (suc-add (length a) at) ∙ little-cons x (a ++ b) (length a + at) k ∙ little-past a b at k
+
+-- within a front, whatever follows it
+pub little-front : (a b : List ℕ) (at k : ℕ) → at + k ≤ length a → little (a ++ b) at k ≡ little a at k
+unfolding little
+little-front a b at zero h = refl
+little-front a b at (suc k) h =
+    ap₂ (λ m n. m + n * 256) (List·getD-append a b 0 at (omega arith)) (little-front a b (suc at) k (omega arith))
 
 -- where the bytes are all there, and where they are not
 module _ (l : List ℕ) (at k : ℕ) where

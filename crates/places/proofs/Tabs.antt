@@ -3,12 +3,14 @@
 use mathlib.Core.Path.{_≡_, refl, sym, ap, ap₂, _∙_}
 use mathlib.Core.List.{List, [], _∷_, _++_, append-nil, append-assoc}
 use Prim.Native.Nat.{ℕ, zero, suc, _+_, _-_, _*_, _≤_, _<_}
-use native.Mathlib.Nat.{mul-le-mul-right, suc-mul, add-assoc, add-zero, zero-add, add-suc, suc-add, le-of-suc-le-suc, not-suc-le-zero}
+use native.Mathlib.Nat.{mul-le-mul-right, suc-mul, add-zero, zero-add, add-suc, suc-add, le-of-suc-le-suc, not-suc-le-zero}
 use native.Mathlib.Numerals.{add-one}
 use native.Mathlib.Omega.{arith}
-use lib.ListN.{length, getD, take, drop, set, length-append, length-take, length-drop, take-append-drop, List·getD-append, List·getD-eq-default}
-use lib.Seq.{ext-getD, getD-take, append-snoc, getD-drop, getD-append-add, drop-length, drop-cons, set-at, take-at, drop-append-add, drop-drop}
+use lib.ListN.{length, getD, take, drop, set, length-append, length-take, List·getD-append}
+use lib.Seq.{ext-getD, getD-take, append-snoc, getD-drop, getD-append-add, drop-length, drop-cons, set-at}
 use Rattle.places.specs.Tab.{tab, tabFrom, over}
+use Rattle.places.proofs.Overs.{over-nothing, over-append}
+pub use Rattle.places.proofs.Overs.{length-over}
 
 length-from : {A : Type 0} (s n : ℕ) (f : ℕ → A) → length (tabFrom s n f) ≡ n
 unfolding tabFrom
@@ -70,8 +72,8 @@ is-tab l n f d e h = sym (tab-getD l d n e) ∙ tab-ext n (λ i. getD l i d) f d
 -- writing over a list: nothing, one entry more, a run more, all of it
 
 over-none : {A : Type 0} (p : ℕ) (f : ℕ → A) (l : List A) → l ≡ over p (tab 0 f) l
-unfolding tab tabFrom over
-over-none p f l = rw (add-zero, append-nil, take-append-drop)
+unfolding tab tabFrom
+over-none p f l = sym (over-nothing p l)
 
 over-more : {A : Type 0} (p n : ℕ) (f : ℕ → A) (l : List A) (d : A) → p + n < length l
     → set (over p (tab n f) l) (p + n) (f n) ≡ over p (tab (n + 1) f) l
@@ -82,31 +84,15 @@ over-more p n f l d h =
     (rw (drop-cons l (p + n) d h, set-at (take p l ++ tab n f) (getD l (p + n) d) (drop (suc (p + n)) l) (f n) (p + n) e)
     (rw (tab-snoc, ← append-assoc (take p l) (tab n f) (f n ∷ []), append-snoc, add-one, add-suc)))
 
-drop-past : {A : Type 0} (x y : List A) (n m : ℕ) → length x ≡ n → drop (n + m) (x ++ y) ≡ drop m y
-drop-past x y n m e = rw (← e, drop-append-add)
-
 over-run : {A : Type 0} (p n m : ℕ) (f : ℕ → A) (l : List A) → p + n + m ≤ length l
     → over (p + n) (tab m (λ k. f (n + k))) (over p (tab n f) l) ≡ over p (tab (n + m) f) l
-unfolding over
 over-run p n m f l h =
-    let e : length (take p l ++ tab n f) ≡ p + n = simp (length-append, length-take, length-tab) (omega arith) in
-    simp length-tab
-    (rw (
-      take-at (take p l ++ tab n f) (drop (p + n) l) (p + n) e,
-      drop-past (take p l ++ tab n f) (drop (p + n) l) (p + n) m e,
-      drop-drop m (p + n) l,
-      tab-append,
-      ← append-assoc (take p l),
-      add-assoc,
-    ))
+    let law = over-append p (tab n f) (tab m (λ k. f (n + k))) l (simp length-tab h) in
+    rw (tab-append) (simp length-tab at law)
 
 over-all : {A : Type 0} (n : ℕ) (f : ℕ → A) (l : List A) → length l ≡ n → over 0 (tab n f) l ≡ tab n f
 unfolding over
 over-all n f l e = rw (length-tab, zero-add, ← e, drop-length, append-nil)
-
-pub length-over : {A : Type 0} (p : ℕ) (x l : List A) → p + length x ≤ length l → length (over p x l) ≡ length l
-unfolding over
-length-over p x l h = simp (length-append, length-take, length-drop) (omega arith)
 
 -- the entries of what was written over, and those before and after it
 module _ {A : Type 0} (p : ℕ) (x l : List A) (h : p + length x ≤ length l) (i : ℕ) (d : A) where
