@@ -9,8 +9,8 @@ use native.Mathlib.Omega.{arith}
 use borrow.Author.Tests.{ne-eqb}
 use Rattle.places.specs.Answers.{unless}
 use Rattle.contents.specs.declared.FileAnswer.{FileAnswer}
-use Rattle.contents.specs.declared.FileAnswer.the-variants.{Done, Block, Cut, Edition, BadEntry, Over, Beyond, Runs}
-use Rattle.contents.specs.Answers.{FileTest, a-block, enough, an-edition, laid-out, an-end, a-number, good-runs, passes, refusal, fileAnswer, numberOf, left}
+use Rattle.contents.specs.declared.FileAnswer.the-variants.{Done, Block, Cut, Edition, BadEntry, Over, Beyond, Runs, Room}
+use Rattle.contents.specs.Answers.{FileTest, a-block, enough, an-edition, laid-out, an-end, a-number, good-runs, whole-blocks, a-room, passes, refusal, fileAnswer, numberOf, left}
 
 module _ (x : FileTest) (xs : List FileTest) where
   pub passed : passes x ≡ true → fileAnswer (x ∷ xs) ≡ fileAnswer xs
@@ -34,6 +34,8 @@ refusal-not-done (laid-out lowest count) e = let z : _≡_ {A = ℕ} 0 1 = cc in
 refusal-not-done (an-end end there) e = let z : _≡_ {A = ℕ} 0 1 = cc in omega arith
 refusal-not-done (a-number number count) e = let z : _≡_ {A = ℕ} 0 1 = cc in omega arith
 refusal-not-done (good-runs lowest count) e = let z : _≡_ {A = ℕ} 0 1 = cc in omega arith
+refusal-not-done (whole-blocks numbers) e = let z : _≡_ {A = ℕ} 0 1 = cc in omega arith
+refusal-not-done (a-room needed there) e = let z : _≡_ {A = ℕ} 0 1 = cc in omega arith
 
 -- Where the tests in front are done, those behind them decide.
 pub in-front-done : (xs ys : List FileTest) → fileAnswer xs ≡ Done → fileAnswer (xs ++ ys) ≡ fileAnswer ys
@@ -68,3 +70,4 @@ number-done (BadEntry p) e = absurd (omega arith)
 number-done Over e = absurd (omega arith)
 number-done Beyond e = absurd (omega arith)
 number-done (Runs p) e = absurd (omega arith)
+number-done Room e = absurd (omega arith)

@@ -1,5 +1,6 @@
 pub mod Accepted
 pub mod Answers
+pub mod Bytes
 pub mod Checks
 pub mod Entries
 pub mod First

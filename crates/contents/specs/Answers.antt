@@ -1,15 +1,15 @@
--- What a call on a column file answers: document 02's numbers and places, the tests that it makes (Item 1, "Refusals, in order"), and what it
--- leaves in a lent buffer. The tests of a call stand in a list, in Item 1's own order, which is not the order of the numbers.
+-- What a call on a column file answers: document 02's numbers and places, the tests that it makes (Items 1 and 3, "Refusals, in
+-- order"), and what it leaves in a lent buffer. The tests of a call stand in a list, in Item 1's own order, which is not the order of the numbers.
 -- Assumes nothing.
 use mathlib.Core.Bool.{Bool}
 use mathlib.Core.List.{List}
-use Prim.Native.Nat.{ℕ}
+use Prim.Native.Nat.{ℕ, _%_}
 use lib.Dec.{eqb, leb, ltb}
 use lib.ListN.{length}
 use Rattle.places.specs.Answers.{firstRefusal}
 use Rattle.places.specs.Pick.{pick, both}
 use Rattle.contents.specs.declared.FileAnswer.{FileAnswer}
-use Rattle.contents.specs.declared.FileAnswer.the-variants.{Done, Block, Cut, Edition, BadEntry, Over, Beyond, Runs}
+use Rattle.contents.specs.declared.FileAnswer.the-variants.{Done, Block, Cut, Edition, BadEntry, Over, Beyond, Runs, Room}
 
 -- Each case of an answer has a number.
 abbrev pub numberOf : FileAnswer → ℕ
@@ -21,6 +21,7 @@ numberOf (BadEntry p) = 10
 numberOf Over = 11
 numberOf Beyond = 12
 numberOf (Runs p) = 13
+numberOf Room = 14
 
 -- With the number a place is returned. It is 0 for every number but 10, whose place is the entry, and 13, whose place is the block.
 abbrev pub placeOf : FileAnswer → ℕ
@@ -32,6 +33,7 @@ placeOf (BadEntry p) = p
 placeOf Over = 0
 placeOf Beyond = 0
 placeOf (Runs p) = p
+placeOf Room = 0
 
 -- These are the things that a call on a file tests.
 pub data FileTest : Type 0 where
@@ -49,6 +51,10 @@ pub data FileTest : Type 0 where
   a-number : (asked count : ℕ) → FileTest
   -- Every run index is in range. `lowest` is the lowest block that has another one, and the count where there is none.
   good-runs : (lowest count : ℕ) → FileTest
+  -- So many numbers are whole blocks, and these are at most 256.
+  whole-blocks : (numbers : ℕ) → FileTest
+  -- The output has room for as many bytes as are needed.
+  a-room : (needed there : ℕ) → FileTest
 
 -- This is the test itself.
 abbrev pub passes : FileTest → Bool
@@ -59,6 +65,8 @@ passes (laid-out lowest count) = eqb lowest count
 passes (an-end end there) = leb there end
 passes (a-number asked count) = ltb asked count
 passes (good-runs lowest count) = eqb lowest count
+passes (whole-blocks numbers) = both (eqb (numbers % 1024) 0) (leb numbers 262144)
+passes (a-room needed there) = leb needed there
 
 -- This is the refusal where it fails.
 abbrev pub refusal : FileTest → FileAnswer
@@ -69,6 +77,8 @@ refusal (laid-out lowest count) = BadEntry lowest
 refusal (an-end end there) = Over
 refusal (a-number asked count) = Beyond
 refusal (good-runs lowest count) = Runs lowest
+refusal (whole-blocks numbers) = Block
+refusal (a-room needed there) = Room
 
 -- A call that makes these tests answers with the first refusal of the list, and where every test passes it is done.
 unfoldable pub fileAnswer : List FileTest → FileAnswer

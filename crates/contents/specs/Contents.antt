@@ -97,7 +97,7 @@ contentsTests l size =
     ∷ enough (contentsSize (count l)) (length l)
     ∷ entriesTests l size
 
--- Where entry i is not all there, this stands for it. It is of no kind, so it is not as laid out.
+-- Where an entry is not there, this stands for it. It is of no kind, so it is not as laid out.
 abbrev pub noEntry : Entry
 noEntry = record { kind = 255; width = 0; zero = 0; length = 0; reference = 0 }
 

@@ -1,4 +1,5 @@
 pub mod Answers
+pub mod Bytes
 pub mod Contents
 pub mod First
 pub mod Plain

@@ -4,19 +4,23 @@
 //
 // FileAnswer, what every call on a column file answers, stands here too.
 use little::pair;
+use little::put_pair;
+use little::put_quad;
+use little::put_word;
 use little::quad;
 use little::word;
 ghost use mathlib.Core.Path.{_≡_};
 ghost use Prim.Native.Nat.{_+_, _*_, _≤_};
 ghost use lib.ListN.{length};
 ghost use Rattle.contents.specs.Answers.{numberOf, placeOf, fileAnswer};
-ghost use Rattle.contents.specs.Contents.{count as countIn, contentsSize, entryOf, entryOr, countOr, isPacked, isRuns, isOfKind, isLaidOut, bodiesSize, entriesTests, contentsTests};
+ghost use Rattle.contents.specs.Contents.{count as countIn, contentsSize, entryOf, entryOr, noEntry, countOr, isPacked, isRuns, isOfKind, isLaidOut, bodiesSize, entriesTests, contentsTests};
+ghost use Rattle.contents.specs.Bytes.{headLeaves, entryLeaves};
 ghost use Rattle.contents.specs.First.{firstBad};
 
 // What a call on a file answers: that it is done, or why it is refused.
 pub enum FileAnswer {
     Done,
-    // the output for a block is not 1,024 long
+    // the output for a block is not 1,024 long, or the numbers to be written are no whole blocks or more than 256 of them
     Block,
     // the file is cut short: in its first four bytes, in the entries or in the bodies
     Cut,
@@ -30,6 +34,8 @@ pub enum FileAnswer {
     Beyond,
     // a run index is out of range; the lowest block that has one
     Runs(usize),
+    // the output is shorter than the file that is to be written
+    Room,
 }
 
 impl FileAnswer {
@@ -46,6 +52,7 @@ impl FileAnswer {
             FileAnswer::Over => 11,
             FileAnswer::Beyond => 12,
             FileAnswer::Runs(_) => 13,
+            FileAnswer::Room => 14,
         }
     }
 
@@ -62,6 +69,7 @@ impl FileAnswer {
             FileAnswer::Edition => 0,
             FileAnswer::Over => 0,
             FileAnswer::Beyond => 0,
+            FileAnswer::Room => 0,
         }
     }
 }
@@ -126,6 +134,13 @@ pub fn entry_or(front: &[u8], i: usize) -> Entry
             return entry_of(front, i);
         }
     }
+    no_entry()
+}
+
+// An entry of no kind, which stands for one that is not there.
+pub fn no_entry() -> Entry
+    ensures { λ r. ⌜ r ≡ noEntry ⌝ }
+{
     Entry {
         kind: 255,
         width: 0,
@@ -148,6 +163,33 @@ fn entry_of(front: &[u8], i: usize) -> Entry
         length: quad(front, at + 4),
         reference: word(front, at + 8),
     }
+}
+
+// Writes edition 1 and the block count at the front of the bytes; nothing where they do not fit.
+pub fn put_head(n: u16, bytes: &mut [u8])
+    ensures { λ _. ⌜ now (bytes .exit) ≡ headLeaves n (now (bytes .entry)) ⌝ }
+{
+    if 4 <= bytes.len() {
+        put_pair(1, 0, bytes);
+        put_pair(n, 2, bytes);
+    }
+}
+
+// Writes an entry from place `at` on; nothing where it does not fit.
+pub fn put_entry(e: Entry, at: usize, bytes: &mut [u8])
+    ensures { λ _. ⌜ now (bytes .exit) ≡ entryLeaves e at (now (bytes .entry)) ⌝ }
+{
+    if bytes.len() < 16 {
+        return;
+    }
+    if bytes.len() - 16 < at {
+        return;
+    }
+    bytes[at] = e.kind;
+    bytes[at + 1] = e.width;
+    put_pair(e.zero, at + 2, bytes);
+    put_quad(e.length, at + 4, bytes);
+    put_word(e.reference, at + 8, bytes);
 }
 
 // Whether the contents are right, in a file of `size` bytes of which `front` is lent: at least the contents, at most all of it.

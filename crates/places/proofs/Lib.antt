@@ -2,6 +2,7 @@ pub mod Answers
 pub mod Digits
 pub mod Every
 pub mod Overs
+pub mod Parts
 pub mod Places
 pub mod Search
 pub mod Tabs

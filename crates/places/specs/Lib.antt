@@ -1,6 +1,7 @@
 pub mod Answers
 pub mod InnerWalks
 pub mod Numbers
+pub mod Parts
 pub mod Pick
 pub mod Places
 pub mod Search

@@ -1,5 +1,6 @@
 -- `contents::entry_or` meets its contract: by the test that the entry is there.
 -- Assumes nothing.
+use mathlib.Core.Logic.{⊎-elim}
 use mathlib.Core.Path.{sym, _∙_}
 use Prim.Native.Nat.{_≤_}
 use native.Mathlib.Omega.{arith}
@@ -24,12 +25,15 @@ entry-of-requires c κs = search needs
 returns : tie.Need-returns
 returns c = c .entry-of .ensures ∙ sym (entry-there _ _ (omega arith))
 
-returns-2 : tie.Need-returns-2
-returns-2 c = sym (entry-missing (now (c .before .before .before .args .front)) (c .before .before .before .args .i) (omega arith))
+no-entry-requires : tie.Need-no-entry-requires
+no-entry-requires c κs = search needs
 
-returns-3 : tie.Need-returns-3
-returns-3 c = sym (entry-missing (now (c .before .before .args .front)) (c .before .before .args .i) (omega arith))
+returns-2 : tie.Need-returns-2
+returns-2 c =
+    let args = c .before .before .before .args in
+    c .no-entry .ensures
+    ∙ sym (entry-missing (now (args .front)) (args .i) (⊎-elim (λ w. omega arith) (λ w. omega arith) (c .before .if1 .came)))
 
 pub entry-or-spec : {M : Type 1} → statement M
 entry-or-spec =
-    tie.close (tie.spec add-if2 mul-if2 add-if2-2 entry-of-requires returns returns-2 returns-3)
+    tie.close (tie.spec add-if2 mul-if2 add-if2-2 entry-of-requires returns no-entry-requires returns-2)
