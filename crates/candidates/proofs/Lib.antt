@@ -1,0 +1,5 @@
+pub mod Calls
+pub mod Choice
+pub mod Filling
+pub mod Least
+pub mod Widths

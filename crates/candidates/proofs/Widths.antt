@@ -1,0 +1,147 @@
+-- The laws of the least width, of the lowest number and of the highest.
+-- Assumes nothing.
+use mathlib.Core.Bool.{true, false}
+use mathlib.Core.List.{List, [], _∷_}
+use mathlib.Core.Logic.{_↔_}
+use mathlib.Core.Path.{_≡_, refl, sym, ap, _∙_}
+use Prim.Native.Nat.{ℕ, zero, suc, _+_, _-_, _*_, _%_, _^_, _≤_, _<_, max, min, zero-le, suc-le-suc}
+use native.Mathlib.Decide.{decLe}
+use native.Mathlib.Nat.{le-of-suc-le-suc, not-suc-le-zero, lt-of-lt-of-le, lt-of-le-of-lt, pow-suc, mod-eq-of-lt}
+use native.Mathlib.Numerals.{add-one}
+use native.Mathlib.Omega.{arith}
+use borrow.Author.Tests.{leb-true, leb-false, le-leb, lt-leb}
+use lib.Count.{leadingZeros, leading-length, leading-le}
+use lib.Dec.{leb}
+use lib.ListN.{length, getD, drop, drop-of-length-le}
+use lib.Pow.{pow-mono, pow-pos}
+use lib.Seq.{drop-cons}
+use Rattle.places.specs.Numbers.{Elements, plus, minus}
+use Rattle.places.specs.Sizes.{t64}
+use Rattle.places.specs.Tab.{tab}
+use Rattle.places.proofs.Tabs.{length-tab, getD-tab}
+use Rattle.deltas.specs.Deltas.{frameOf}
+use Rattle.deltas.proofs.Lanes.{minus-only}
+use Rattle.runs.specs.Highest.{highestOf}
+use Rattle.runs.proofs.Highs.{highest-bound, highest-below}
+use Rattle.contents.specs.First.{firstBad}
+use Rattle.contents.proofs.First.{first-le, first-before, first-at, first-only}
+use Rattle.candidates.specs.Widths.{bits, widthOf, lowestOf}
+
+module _ (m : ℕ) where
+  -- No width is above 64.
+  pub bits-most : bits m ≤ 64
+  unfolding bits
+  bits-most = first-le 64 (λ w. leb (2 ^ w) m)
+
+  -- A number of 64 bits is held at its width,
+  pub bits-hold : m < 2 ^ 64 → m < 2 ^ bits m
+  unfolding bits
+  bits-hold h =
+      elim (decLe 64 (bits m)) [
+        | yes top ↦ lt-of-lt-of-le h (pow-mono top)
+        | no low ↦ leb-false (2 ^ bits m) m (first-at 64 (λ w. leb (2 ^ w) m) (omega arith))
+      ]
+
+  -- and at no smaller one.
+  pub bits-least : (w : ℕ) → m < 2 ^ w → bits m ≤ w
+  unfolding bits
+  bits-least w h =
+      elim (decLe (bits m) w) [
+        | yes le ↦ le
+        | no gt ↦ let t : 2 ^ w ≤ m = leb-true (2 ^ w) m (first-before 64 (λ w. leb (2 ^ w) m) w (omega arith)) in absurd (omega arith)
+      ]
+
+  -- 64 less the leading zeros is the width.
+  pub bits-leading : m < 2 ^ 64 → 64 - leadingZeros 64 m ≡ bits m
+  unfolding bits
+  bits-leading h =
+      let s = leading-length 64 m h in
+      let n : ℕ = s .0 in
+      let high : 64 - leadingZeros 64 m ≡ n = omega (arith, s .1) in
+      high
+      ∙ first-only 64 n (λ w. leb (2 ^ w) m) (omega (arith, s .1))
+      (λ w b. le-leb (2 ^ w) m (let half : 2 ^ suc w ≤ 2 ^ n = pow-mono b in omega (arith, s .3, pow-suc 2 w)))
+      (λ _. lt-leb (2 ^ n) m (s .2))
+
+pub width-most : (l : List ℕ) → widthOf l ≤ 64
+unfolding widthOf
+width-most l = bits-most (highestOf l)
+
+-- A list of elements fits a width exactly when its own least width is at most that.
+pub width-fits : (l : List ℕ) → Elements t64 l → (w : ℕ) → (widthOf l ≤ w) ↔ ((i : ℕ) → i < length l → getD l i 0 < 2 ^ w)
+unfolding widthOf
+width-fits l fits w = (
+  (λ low i h. lt-of-le-of-lt (highest-bound l i h) (lt-of-lt-of-le (bits-hold (highestOf l) (highest-element l fits)) (pow-mono low))),
+  (λ all. bits-least (highestOf l) w (highest-below (2 ^ w) l (pow-pos w) all)),
+)
+  where
+    highest-element : (l : List ℕ) → Elements t64 l → highestOf l < 2 ^ 64
+    highest-element l fits = highest-below (2 ^ 64) l (pow-pos 64) (λ i _. fits i)
+
+-- The highest number of a list that is not empty stands in it.
+pub highest-stands : (xs : List ℕ) → 0 < length xs → (i : ℕ) × (i < length xs) × (getD xs i 0 ≡ highestOf xs)
+unfolding highestOf
+highest-stands [] h = absurd (not-suc-le-zero h)
+highest-stands (x ∷ []) h = (zero, h, omega arith)
+highest-stands (x ∷ y ∷ ys) h =
+    let rest = highest-stands (y ∷ ys) (suc-le-suc zero-le) in
+    elim (decLe (highestOf (y ∷ ys)) x) [
+      | yes low ↦ (zero, suc-le-suc zero-le, omega arith)
+      | no high ↦ (suc (rest .0), suc-le-suc (rest .1), rest .2 ∙ omega arith)
+    ]
+
+-- No number of a list is lower than the lowest,
+pub lowest-bound : (xs : List ℕ) (i : ℕ) → i < length xs → lowestOf xs ≤ getD xs i 0
+unfolding lowestOf
+lowest-bound [] i h = absurd (not-suc-le-zero h)
+lowest-bound (x ∷ xs) zero h = omega arith
+lowest-bound (x ∷ xs) (suc i) h = let m : lowestOf xs ≤ getD xs i 0 = lowest-bound xs i (le-of-suc-le-suc h) in omega arith
+
+-- which is a number of 64 bits.
+pub lowest-element : (xs : List ℕ) → lowestOf xs < 2 ^ 64
+unfolding lowestOf
+lowest-element [] = omega arith
+lowest-element (x ∷ xs) = let m : lowestOf xs < 2 ^ 64 = lowest-element xs in omega arith
+
+-- What the loop that looks for it keeps: the lowest number of the places passed, with those still to come, is the lowest of all.
+pub record Passed (xs : List ℕ) (low i : ℕ) : Type 0 where
+  pub within : i ≤ length xs
+  pub small : low < 18446744073709551616
+  pub same : min low (lowestOf (drop i xs)) ≡ lowestOf xs
+
+pub passed-none : (xs : List ℕ) → Passed xs 18446744073709551615 0
+passed-none xs = record { within = omega arith; small = omega arith; same = omega (arith, lowest-element xs) }
+
+pub passed-next : {xs : List ℕ} {low i : ℕ} (next : ℕ) → Passed xs low i → i < length xs → next ≡ min low (getD xs i 0) → Passed xs next (i + 1)
+unfolding lowestOf
+passed-next {xs} {low} {i} next p h e =
+    let s : min low (lowestOf (getD xs i 0 ∷ drop (suc i) xs)) ≡ lowestOf xs = rw (drop-cons xs i 0 h) at (p .same) in
+    let small : low < 18446744073709551616 = p .small in
+    record { within = omega arith; small = omega arith; same = rw add-one (omega arith) }
+
+pub passed-all : {xs : List ℕ} {low i : ℕ} → Passed xs low i → length xs ≤ i → low ≡ lowestOf xs
+unfolding lowestOf
+passed-all {xs} {low} {i} p h =
+    let small : low < 18446744073709551616 = p .small in
+    let e : min low (lowestOf []) ≡ lowestOf xs = rw (drop-of-length-le xs h) at (p .same) in
+    omega arith
+
+-- The highest number of the frame over the lowest one is the highest less the lowest.
+pub frame-highest : (v : List ℕ) → length v ≡ 1024 → Elements t64 v → highestOf (frameOf t64 v (lowestOf v)) ≡ highestOf v - lowestOf v
+unfolding frameOf plus
+frame-highest v long fits =
+    let low : ℕ = lowestOf v in
+    let high : ℕ = highestOf v in
+    let f : List ℕ = tab 1024 (λ p. minus t64 (getD v p 0) low) in
+    let size : length f ≡ 1024 = length-tab 1024 _ in
+    let at : (i : ℕ) → i < 1024 → getD f i 0 ≡ getD v i 0 - low
+    = λ i h. getD-tab 1024 _ i 0 h ∙ minus-low (getD v i 0) low (lowest-bound v i (omega arith)) (fits i) in
+    let most : highestOf f < suc (high - low)
+    = highest-below (suc (high - low)) f (suc-le-suc zero-le) (λ i h. omega (arith, at i (omega arith), highest-bound v i (omega arith))) in
+    let top = highest-stands v (omega arith) in
+    let least : high - low ≤ highestOf f = omega (arith, at (top .0) (omega (arith, top .1)), highest-bound f (top .0) (omega (arith, top .1)), top .2) in
+    omega arith
+  where
+    minus-low : (a b : ℕ) → b ≤ a → a < 2 ^ 64 → minus t64 a b ≡ a - b
+    minus-low a b h fits =
+        sym (minus-only t64 a b (a - b) (omega arith) (omega arith) (ap (λ n. n % 2 ^ 64) (omega arith) ∙ mod-eq-of-lt fits))

@@ -1,0 +1,42 @@
+-- What the calls on one block answer and leave (document 02, Item 3): the entry that the writer gives a block, and the body laid down.
+-- Assumes nothing.
+use mathlib.Core.List.{List, [], _∷_}
+use Prim.Native.Nat.{ℕ}
+use lib.ListN.{length}
+use Rattle.places.specs.Pick.{pick}
+use Rattle.places.specs.Tab.{over}
+use Rattle.places.specs.Takes.{long}
+use Rattle.contents.specs.declared.Entry.{Entry}
+use Rattle.contents.specs.declared.FileAnswer.{FileAnswer}
+use Rattle.contents.specs.declared.FileAnswer.the-variants.{Done}
+use Rattle.contents.specs.Answers.{FileTest, a-block, a-room, fileAnswer, isDone, left}
+use Rattle.contents.specs.Contents.{noEntry}
+use Rattle.candidates.specs.declared.Laid.{Laid}
+use Rattle.candidates.specs.declared.Laid.the-variants.{Block, Refused}
+use Rattle.candidates.specs.Candidates.{chosen, bodyFor}
+
+-- This is the entry of a block of 1,024 numbers; another list has no entry.
+unfoldable pub entryFor : (values : List ℕ) → Entry
+entryFor values = pick (long 1024 values) (chosen values .entry) noEntry
+
+-- Laying a block down takes 1,024 numbers, and an output with room for the body.
+abbrev pub layTests : (values output : List ℕ) → List FileTest
+layTests values output = a-block values ∷ a-room (length (bodyFor values)) (length output) ∷ []
+
+-- It gives the block's entry, or the refusal,
+unfoldable pub laidOf : (values output : List ℕ) → Laid
+laidOf values output = pick (isDone (fileAnswer (layTests values output))) (Block (chosen values .entry)) (Refused (fileAnswer (layTests values output)))
+
+-- and leaves the body at the front of the output; the bytes behind it stay.
+unfoldable pub layLeaves : (values output : List ℕ) → List ℕ
+layLeaves values output = left (fileAnswer (layTests values output)) (over 0 (bodyFor values) output) output
+
+-- An entry stands for an answer that is done, and a refusal for itself.
+abbrev pub answerOf : Laid → FileAnswer
+answerOf (Block e) = Done
+answerOf (Refused a) = a
+
+-- After a refusal there is no entry.
+abbrev pub entryOf : Laid → Entry
+entryOf (Block e) = e
+entryOf (Refused a) = noEntry

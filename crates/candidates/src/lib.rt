@@ -1,0 +1,267 @@
+// What the writer lays down for one block (document 02, Item 3). There are three candidates: the packed block, the frame over
+// its lowest number, and the differences from each lane's first number. Each is at the least width that restores the block.
+// The shortest is chosen, and of two that are equally long the one of the lower kind.
+//
+// A body is a list of words until it is chosen, and the chosen one alone becomes bytes.
+use contents::Entry;
+use contents::FileAnswer;
+use contents::no_entry;
+use deltas::t64::delta;
+use deltas::t64::for_pack;
+use little::write_words;
+use packing::t64::pack;
+use rows::t64::load;
+use rows::t64::store;
+ghost use mathlib.Core.Path.{_≡_};
+ghost use mathlib.Core.List.{_++_};
+ghost use Prim.Native.Nat.{_+_, _*_, _≤_};
+ghost use lib.Dec.{leb};
+ghost use lib.ListN.{length, take};
+ghost use Rattle.places.specs.Pick.{pick};
+ghost use Rattle.places.specs.Sizes.{t64};
+ghost use Rattle.places.specs.Tab.{over};
+ghost use Rattle.packing.specs.Packed.{packOf};
+ghost use Rattle.deltas.specs.Deltas.{forPackOf};
+ghost use Rattle.runs.specs.Highest.{highestOf};
+ghost use Rattle.little.specs.Little.{writeLeaves};
+ghost use Rattle.candidates.specs.Calls.{entryFor, laidOf, layLeaves, answerOf, entryOf};
+ghost use Rattle.candidates.specs.Candidates.{packedEntry, baseOf, differences as differencesOf, chosen};
+ghost use Rattle.candidates.specs.InnerMeasures.{measuresOf, entryBy, shorterEntry, shorterPart, wordsBy};
+ghost use Rattle.candidates.specs.Widths.{bits, lowestOf};
+
+// The entry of a block that was laid down, or the refusal.
+pub enum Laid {
+    Block(Entry),
+    Refused(FileAnswer),
+}
+
+impl Laid {
+    // The answer in the terms of the other calls.
+    pub fn answer(self) -> FileAnswer
+        ensures { λ r. ⌜ r ≡ answerOf self ⌝ }
+    {
+        match self {
+            Laid::Block(_) => FileAnswer::Done,
+            Laid::Refused(a) => a,
+        }
+    }
+
+    // The entry; after a refusal one of no kind.
+    pub fn entry(self) -> Entry
+        ensures { λ r. ⌜ r ≡ entryOf self ⌝ }
+    {
+        match self {
+            Laid::Block(e) => e,
+            Laid::Refused(_) => no_entry(),
+        }
+    }
+}
+
+// What is measured of a block: its lowest number, and the widths of the three candidates.
+pub struct Measures {
+    pub low: u64,
+    pub plain: usize,
+    pub frame: usize,
+    pub steps: usize,
+}
+
+// The entry of the candidate that is chosen for a block; one of no kind where there are not 1,024 numbers.
+pub fn entry_for(values: &[u64]) -> Entry
+    ensures { λ r. ⌜ r ≡ entryFor (now (values .entry)) ⌝ }
+{
+    if values.len() != 1024 {
+        return no_entry();
+    }
+    let mut differences = [0u64; 1024];
+    let m = measure(values, &mut differences);
+    entry_by(m)
+}
+
+// Lays the body of the chosen candidate down at the front of the output, and gives its entry.
+pub fn lay_block(values: &[u64], output: &mut [u8]) -> Laid
+    ensures { λ r. ⌜ r ≡ laidOf (now (values .entry)) (now (output .entry)) ⌝ }
+    ensures { λ _. ⌜ now (output .exit) ≡ layLeaves (now (values .entry)) (now (output .entry)) ⌝ }
+{
+    if values.len() != 1024 {
+        return Laid::Refused(FileAnswer::Block);
+    }
+    let mut differences = [0u64; 1024];
+    let m = measure(values, &mut differences);
+    let e = entry_by(m);
+    if output.len() < e.length as usize {
+        return Laid::Refused(FileAnswer::Room);
+    }
+    lay_shortest(m, values, &differences, output);
+    Laid::Block(e)
+}
+
+// Measures a block, and leaves its differences behind, which are packed later.
+fn measure(values: &[u64], differences: &mut [u64]) -> Measures
+    requires { ⌜ length (now values) ≡ 1024 ⌝ }
+    requires { ⌜ length (now differences) ≡ 1024 ⌝ }
+    ensures { λ r. ⌜ r ≡ measuresOf (now (values .entry)) ⌝ }
+    ensures { λ _. ⌜ now (differences .exit) ≡ differencesOf (now (values .entry)) ⌝ }
+{
+    let low = lowest(values);
+    let high = highest(values);
+    delta(values, &values[..16], differences);
+    Measures {
+        low: low,
+        plain: width_of(high),
+        frame: width_of(high - low),
+        steps: width_of(highest(differences)),
+    }
+}
+
+// The lowest of the numbers.
+fn lowest(numbers: &[u64]) -> u64
+    ensures { λ r. ⌜ r ≡ lowestOf (now (numbers .entry)) ⌝ }
+{
+    let mut low: u64 = 18446744073709551615;
+    let mut i = 0;
+    while i < numbers.len() {
+        let number = numbers[i];
+        if number < low {
+            low = number;
+        }
+        i += 1;
+    }
+    low
+}
+
+// The highest of the numbers; 0 where there is none.
+fn highest(numbers: &[u64]) -> u64
+    ensures { λ r. ⌜ r ≡ highestOf (now (numbers .entry)) ⌝ }
+{
+    let mut high: u64 = 0;
+    let mut i = 0;
+    while i < numbers.len() {
+        let number = numbers[i];
+        if high < number {
+            high = number;
+        }
+        i += 1;
+    }
+    high
+}
+
+// The least width that holds m.
+fn width_of(m: u64) -> usize
+    ensures { λ r. ⌜ (r ≡ bits m) × (r ≤ 64) ⌝ }
+{
+    (64 - u64::leading_zeros(m)) as usize
+}
+
+// The entry of the shortest candidate, which are compared two at a time.
+fn entry_by(m: Measures) -> Entry
+    requires { ⌜ (m .plain ≤ 64) × ((m .frame ≤ 64) × (m .steps ≤ 64)) ⌝ }
+    ensures { λ r. ⌜ r ≡ entryBy m ⌝ }
+{
+    let plain = packed_entry(0, m.plain, 0, 0);
+    let frame = packed_entry(1, m.frame, 0, m.low);
+    let steps = packed_entry(2, m.steps, 128, 0);
+    shorter_entry(shorter_entry(plain, frame), steps)
+}
+
+fn packed_entry(kind: u8, width: usize, more: u32, reference: u64) -> Entry
+    requires { ⌜ (width ≤ 64) × (more ≤ 128) ⌝ }
+    ensures { λ r. ⌜ r ≡ packedEntry kind width more reference ⌝ }
+{
+    Entry {
+        kind: kind,
+        width: width as u8,
+        zero: 0,
+        length: more + 128 * (width as u32),
+        reference: reference,
+    }
+}
+
+// The entry of the shorter body, and of two that are equally long the first.
+fn shorter_entry(a: Entry, b: Entry) -> Entry
+    ensures { λ r. ⌜ r ≡ shorterEntry a b ⌝ }
+{
+    if a.length <= b.length {
+        return a;
+    }
+    b
+}
+
+// The candidates, each in an array of its own, and the bytes of the shortest. An array has room for the longest body of its kind.
+fn lay_shortest(m: Measures, values: &[u64], differences: &[u64], output: &mut [u8])
+    requires { ⌜ (m .plain ≤ 64) × ((m .frame ≤ 64) × (m .steps ≤ 64)) ⌝ }
+    requires { ⌜ length (now values) ≡ 1024 ⌝ }
+    requires { ⌜ length (now differences) ≡ 1024 ⌝ }
+    ensures { λ _. ⌜ now (output .exit) ≡ writeLeaves 8 (wordsBy m (now (values .entry)) (now (differences .entry))) (now (output .entry)) ⌝ }
+{
+    let mut plain = [0u64; 1024];
+    let mut frame = [0u64; 1024];
+    let mut steps = [0u64; 1040];
+    fill_plain(m.plain, values, &mut plain);
+    fill_frame(m.frame, values, m.low, &mut frame);
+    fill_steps(m.steps, values, differences, &mut steps);
+    write_shortest(m, &plain, &frame, &steps, output);
+}
+
+fn fill_plain(width: usize, values: &[u64], words: &mut [u64])
+    requires { ⌜ width ≤ 64 ⌝ }
+    requires { ⌜ length (now values) ≡ 1024 ⌝ }
+    requires { ⌜ 16 * width ≤ length (now words) ⌝ }
+    ensures { λ _. ⌜ now (words .exit) ≡ over 0 (packOf t64 width (now (values .entry))) (now (words .entry)) ⌝ }
+{
+    let n = 16 * width;
+    pack(width, values, &mut words[..n]);
+}
+
+fn fill_frame(width: usize, values: &[u64], reference: u64, words: &mut [u64])
+    requires { ⌜ width ≤ 64 ⌝ }
+    requires { ⌜ length (now values) ≡ 1024 ⌝ }
+    requires { ⌜ 16 * width ≤ length (now words) ⌝ }
+    ensures { λ _. ⌜ now (words .exit) ≡ over 0 (forPackOf t64 width (now (values .entry)) reference) (now (words .entry)) ⌝ }
+{
+    let n = 16 * width;
+    for_pack(width, values, reference, &mut words[..n]);
+}
+
+fn fill_steps(width: usize, values: &[u64], differences: &[u64], words: &mut [u64])
+    requires { ⌜ width ≤ 64 ⌝ }
+    requires { ⌜ length (now values) ≡ 1024 ⌝ }
+    requires { ⌜ length (now differences) ≡ 1024 ⌝ }
+    requires { ⌜ 16 + 16 * width ≤ length (now words) ⌝ }
+    ensures { λ _. ⌜ now (words .exit) ≡ over 0 (baseOf (now (values .entry)) ++ packOf t64 width (now (differences .entry))) (now (words .entry)) ⌝ }
+{
+    store(words, load(values));
+    let end = 16 + 16 * width;
+    pack(width, differences, &mut words[16..end]);
+}
+
+// The three candidates are the fronts of three lists. Writes the bytes of the shortest.
+fn write_shortest<'a>(
+    m: Measures,
+    plain: &'a [u64],
+    frame: &'a [u64],
+    steps: &'a [u64],
+    output: &mut [u8],
+)
+    requires { ⌜ (m .plain ≤ 64) × ((m .frame ≤ 64) × (m .steps ≤ 64)) ⌝ }
+    requires { ⌜ 16 * m .plain ≤ length (now plain) ⌝ }
+    requires { ⌜ 16 * m .frame ≤ length (now frame) ⌝ }
+    requires { ⌜ 16 + 16 * m .steps ≤ length (now steps) ⌝ }
+    ensures { λ _. ⌜ now (output .exit) ≡ writeLeaves 8 (shorterPart (shorterPart (take (16 * m .plain) (now (plain .entry))) (take (16 * m .frame) (now (frame .entry)))) (take (16 + 16 * m .steps) (now (steps .entry)))) (now (output .entry)) ⌝ }
+{
+    let first = shorter(plain, 16 * m.plain, frame, 16 * m.frame);
+    let body = shorter(first, first.len(), steps, 16 + 16 * m.steps);
+    write_words(body, output);
+}
+
+// Two bodies, of n and of k words, stand at the front of two lists. Hands back the part of its list that is the shorter one, and
+// of two that are equally long the first, which has the lower kind. Nothing is copied.
+fn shorter<'a>(a: &'a [u64], n: usize, b: &'a [u64], k: usize) -> &'a [u64]
+    requires { ⌜ n ≤ length (now a) ⌝ }
+    requires { ⌜ k ≤ length (now b) ⌝ }
+    ensures { λ r. ⌜ now r ≡ shorterPart (take n (now (a .entry))) (take k (now (b .entry))) ⌝ }
+{
+    if n <= k {
+        return &a[..n];
+    }
+    &b[..k]
+}
