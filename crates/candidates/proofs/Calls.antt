@@ -118,10 +118,16 @@ module _ (values output : List ℕ) where
         (passed _ _ (eq-eqb (length values) 1024 long) ∙ stopped _ _ (lt-leb (length (bodyFor values)) (length output) (omega (arith, body-sized values)))) in
         (sym (l .0), sym (l .1))
 
+    pub laid-there : chosen values .entry .length ≤ length output
+        → (laidOf values output ≡ Written (chosen values .entry)) × (layLeaves values output ≡ over 0 (bodyFor values) output)
+    laid-there h =
+        let room : length (bodyFor values) ≤ length output = omega (arith, body-sized values) in
+        laid-by Done (passed _ _ (eq-eqb (length values) 1024 long) ∙ passed _ _ (le-leb (length (bodyFor values)) (length output) room) ∙ none-left)
+
     pub laid : chosen values .entry .length ≤ length output
         → (Written (chosen values .entry) ≡ laidOf values output) × (writeLeaves 8 (chosen values .words) output ≡ layLeaves values output)
     unfolding bodyFor
     laid h =
+        let l = laid-there h in
         let room : length (bodyFor values) ≤ length output = omega (arith, body-sized values) in
-        let l = laid-by Done (passed _ _ (eq-eqb (length values) 1024 long) ∙ passed _ _ (le-leb (length (bodyFor values)) (length output) room) ∙ none-left) in
         (sym (l .0), write-all 8 (chosen values .words) output (omega (arith, length-all 8 (chosen values .words))) ∙ sym (l .1))

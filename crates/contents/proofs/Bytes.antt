@@ -109,6 +109,10 @@ head-put n l h =
     put-on 2 n 0 2 (bytesOf 2 1) l (putLeaves 2 1 0 l) (put-within 2 1 0 l (omega arith)) (omega (arith, length-bytes 2 1)) h
     ∙ sym (ap (λ b. pick b (over 0 (headBytes n) l) l) (le-leb 4 (length l) h))
 
+pub head-fits : (n : ℕ) (l : List ℕ) → 4 ≤ length l → headLeaves n l ≡ over 0 (headBytes n) l
+unfolding headLeaves
+head-fits n l h = ap (λ b. pick b (over 0 (headBytes n) l) l) (le-leb 4 (length l) h)
+
 pub head-missing : (n : ℕ) (l : List ℕ) → length l < 4 → headLeaves n l ≡ l
 unfolding headLeaves
 head-missing n l h = ap (λ b. pick b (over 0 (headBytes n) l) l) (lt-leb 4 (length l) h)
@@ -129,6 +133,10 @@ module _ (e : Entry) (at : ℕ) (l : List ℕ) where
       put-on 8 (e .reference) at (at + 8) (front ++ bytesOf 4 (e .length)) l _ four (sym (ap (λ k. at + k) eight-long)) (omega arith)
       ∙ sym (ap (λ b. pick b (over at (entryBytes e) l) l) (le-leb (at + 16) (length l) h))
 
+  pub entry-fits : at + 16 ≤ length l → entryLeaves e at l ≡ over at (entryBytes e) l
+  unfolding entryLeaves
+  entry-fits h = ap (λ b. pick b (over at (entryBytes e) l) l) (le-leb (at + 16) (length l) h)
+
   pub entry-left : length l < at + 16 → entryLeaves e at l ≡ l
   unfolding entryLeaves
   entry-left h = ap (λ b. pick b (over at (entryBytes e) l) l) (lt-leb (at + 16) (length l) h)
@@ -138,8 +146,6 @@ module _ (e : Entry) (at : ℕ) (l : List ℕ) where
   unfolding entryLeaves
   entry-length =
       elim (decLe (at + 16) (length l)) [
-        | yes h ↦
-            ap (λ b. length (pick b (over at (entryBytes e) l) l)) (le-leb (at + 16) (length l) h)
-            ∙ length-over at (entryBytes e) l (omega (arith, length-entry e))
+        | yes h ↦ ap length (entry-fits h) ∙ length-over at (entryBytes e) l (omega (arith, length-entry e))
         | no h ↦ ap length (entry-left (omega arith))
       ]

@@ -26,7 +26,7 @@ use Rattle.contents.specs.Contents.{edition, count, contentsSize, entryOf, isLa
 use Rattle.contents.specs.First.{firstBad}
 use Rattle.contents.specs.Plain.{LaidOut}
 use Rattle.contents.proofs.Accepted.{Whole, accepted, accepts, done-front}
-use Rattle.contents.proofs.Answers.{passed, stopped, none-left, in-front-done, in-front-refused}
+use Rattle.contents.proofs.Answers.{passed, stopped, none-left, in-front-done, in-front-refused, number-done}
 use Rattle.contents.proofs.Checks as Checks
 use Rattle.contents.proofs.First.{first-only, first-le, first-before, first-at}
 use Rattle.contents.proofs.Laid.{laid-plain}
@@ -219,14 +219,11 @@ module _ (l : List ℕ) where
 
   -- whether a file is done
   done-or-not : (a : FileAnswer) → (a ≡ Done) ⊎ (a ≢ Done)
-  done-or-not Done = inl refl
-  done-or-not Block = inr (λ e. apart Block (λ z. omega arith) e)
-  done-or-not Cut = inr (λ e. apart Cut (λ z. omega arith) e)
-  done-or-not Edition = inr (λ e. apart Edition (λ z. omega arith) e)
-  done-or-not (BadEntry p) = inr (λ e. apart (BadEntry p) (λ z. omega arith) e)
-  done-or-not Over = inr (λ e. apart Over (λ z. omega arith) e)
-  done-or-not Beyond = inr (λ e. apart Beyond (λ z. omega arith) e)
-  done-or-not (Runs p) = inr (λ e. apart (Runs p) (λ z. omega arith) e)
+  done-or-not a =
+      elim (ℕ-discrete (numberOf a) 0) [
+        | yes zero ↦ inl (number-done a zero)
+        | no other ↦ inr (λ e. other (ap numberOf e))
+      ]
 
   module _ (p : ℕ) where
     row-gives : {a : FileAnswer} → RowReason l p a → fileAnswer (rowTests l p) ≡ a

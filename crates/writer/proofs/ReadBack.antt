@@ -1,0 +1,158 @@
+-- Document 02, Item 3, of a whole file: the reader accepts what the writer lays down, and its rows are the numbers.
+-- Assumes nothing.
+use mathlib.Core.Bool.{true}
+use mathlib.Core.List.{List, [], _∷_, _++_, append-nil, append-assoc}
+use mathlib.Core.Path.{_≡_, refl, sym, ap, ap₂, _∙_, subst}
+use Prim.Native.Nat.{ℕ, zero, suc, _+_, _-_, _*_, _/_, _%_, _^_, _≤_, _<_}
+use native.Mathlib.Omega.{arith}
+use lib.ListN.{length, getD, take, drop, length-append}
+use lib.Seq.{take-at, drop-at}
+use Rattle.places.specs.Numbers.{Elements}
+use Rattle.places.specs.Parts.{cut, joined}
+use Rattle.places.specs.Sizes.{t64}
+use Rattle.places.specs.Tab.{tab}
+use Rattle.places.proofs.Parts.{length-cut, getD-cut, cut-elements, joined-at}
+use Rattle.places.proofs.Tabs.{is-tab}
+use Rattle.contents.specs.declared.Entry.{Entry}
+use Rattle.contents.specs.declared.FileAnswer.the-variants.{Done}
+use Rattle.contents.specs.Answers.{fileAnswer}
+use Rattle.contents.specs.Bytes.{headBytes, entryBytes}
+use Rattle.contents.specs.Contents.{edition, count, contentsSize, entryAt, entryOf, isLaidOut, bodiesSize, bodyStart, contentsTests}
+use Rattle.contents.proofs.Accepted.{Whole, accepts, done-both}
+use Rattle.contents.proofs.Bytes.{head-edition, head-count, entry-back}
+use Rattle.bodies.specs.Bodies.{blockOf, hasGoodRuns}
+use Rattle.candidates.specs.Candidates.{chosen, bodyFor}
+use Rattle.candidates.proofs.Choice.{body-sized, chosen-laid, chosen-fits, chosen-runs}
+use Rattle.candidates.proofs.Least.{chosen-restores}
+use Rattle.files.specs.Files.{bodyOf, blockIn, rowAt, rowsOf, fileTests}
+use Rattle.files.proofs.Files.{no-bad-runs}
+use Rattle.writer.specs.Writer.{blockCount, blockAt, contentsFor, bodiesFor, fileOf}
+use Rattle.writer.proofs.Laying.{fronts, length-fronts, bodies-none, bodies-longer, length-file}
+
+module _ (values : List ℕ) (n : ℕ) (whole : length values ≡ n * 1024) (few : n ≤ 256) (fits : Elements t64 values) where
+  blocks : blockCount values ≡ n
+  blocks = omega arith
+
+  block-long : (i : ℕ) → i < n → length (blockAt values i) ≡ 1024
+  block-long i h = length-cut 1024 values i (omega arith)
+
+  block-fits : (i : ℕ) → Elements t64 (blockAt values i)
+  block-fits i = cut-elements t64 1024 values i fits
+
+  abbrev file : List ℕ
+  file = fileOf values
+
+  file-is : file ≡ fronts values n n ++ bodiesFor values n
+  unfolding fileOf
+  file-is = ap (λ k. headBytes k ++ contentsFor values k ++ bodiesFor values k) blocks
+
+  head-first : file ≡ headBytes n ++ (contentsFor values n ++ bodiesFor values n)
+  head-first = file-is ∙ append-assoc (headBytes n) (contentsFor values n) (bodiesFor values n)
+
+  length-is : length file ≡ contentsSize n + length (bodiesFor values n)
+  length-is = length-file values ∙ ap (λ k. contentsSize k + length (bodiesFor values k)) blocks
+
+  edition-is : edition file ≡ 1
+  edition-is = ap edition head-first ∙ head-edition n (contentsFor values n ++ bodiesFor values n)
+
+  count-is : count file ≡ n
+  count-is = ap count head-first ∙ head-count n (contentsFor values n ++ bodiesFor values n) (omega arith)
+
+  -- Entry i stands behind the entries in front of it,
+  entry-split : (i : ℕ) → i < n → (rest : List ℕ) × (file ≡ fronts values n i ++ (entryBytes (chosen (blockAt values i) .entry) ++ rest))
+  unfolding contentsFor
+  entry-split i h =
+      let r = joined-at n (λ b. entryBytes (chosen (blockAt values b) .entry)) i h in
+      let e : List ℕ = entryBytes (chosen (blockAt values i) .entry) in
+      let c : List ℕ = contentsFor values i in (
+        r .0 ++ bodiesFor values n,
+        head-first
+            ∙ ap (λ x. headBytes n ++ (x ++ bodiesFor values n)) (r .1)
+            ∙ ap (λ x. headBytes n ++ x) (append-assoc c (e ++ r .0) (bodiesFor values n) ∙ ap (λ x. c ++ x) (append-assoc e (r .0) (bodiesFor values n)))
+            ∙ sym (append-assoc (headBytes n) c (e ++ (r .0 ++ bodiesFor values n))),
+      )
+
+  -- so it is read back,
+  pub entry-read : (i : ℕ) → i < n → entryOf file i ≡ chosen (blockAt values i) .entry
+  unfolding entryOf
+  entry-read i h =
+      let s = entry-split i h in
+      ap₂ (λ l at. entryAt l at) (s .1) (sym (length-fronts values n i))
+      ∙ entry-back (chosen (blockAt values i) .entry) (fronts values n i) (s .0) (chosen-fits (blockAt values i))
+
+  -- and the body begins where it was laid.
+  sizes : (i : ℕ) → i ≤ n → bodiesSize file i ≡ length (bodiesFor values i)
+  unfolding bodiesSize
+  sizes zero h = sym (ap length (bodies-none values))
+  sizes (suc i) h =
+      ap₂ (λ a e. a + e .length) (sizes i (omega arith)) (entry-read i h) ∙ sym (bodies-longer values i)
+
+  start-is : (i : ℕ) → i ≤ n → bodyStart file i ≡ contentsSize n + length (bodiesFor values i)
+  unfolding bodyStart
+  start-is i h = ap₂ (λ k s. contentsSize k + s) count-is (sizes i h)
+
+  body-split : (i : ℕ) → i < n → (rest : List ℕ) × (file ≡ (fronts values n n ++ bodiesFor values i) ++ (bodyFor (blockAt values i) ++ rest))
+  unfolding bodiesFor
+  body-split i h =
+      let r = joined-at n (λ b. bodyFor (blockAt values b)) i h in
+      let b : List ℕ = bodiesFor values i in (
+        r .0,
+        file-is
+            ∙ ap (λ x. fronts values n n ++ x) (r .1)
+            ∙ sym (append-assoc (fronts values n n) b (bodyFor (blockAt values i) ++ r .0)),
+      )
+
+  pub body-read : (i : ℕ) → i < n → bodyOf file i ≡ bodyFor (blockAt values i)
+  unfolding bodyOf
+  body-read i h =
+      let s = body-split i h in
+      let front : List ℕ = fronts values n n ++ bodiesFor values i in
+      let body : List ℕ = bodyFor (blockAt values i) in
+      let at : length front ≡ bodyStart file i
+      = length-append (fronts values n n) (bodiesFor values i) ∙ ap (λ k. k + length (bodiesFor values i)) (length-fronts values n n) ∙ sym (start-is i (omega arith)) in
+      let size : length body ≡ entryOf file i .length = body-sized (blockAt values i) ∙ ap (λ e. e .length) (sym (entry-read i h)) in
+      ap (λ l. take (entryOf file i .length) (drop (bodyStart file i) l)) (s .1)
+      ∙ ap (λ x. take (entryOf file i .length) x) (drop-at front (body ++ s .0) (bodyStart file i) at)
+      ∙ take-at body (s .0) (entryOf file i .length) size
+
+  -- The contents are right,
+  contents-right : Whole file (length file)
+  contents-right = record {
+    head = omega (arith, length-is);
+    first = edition-is;
+    few = omega (arith, count-is);
+    room = omega (arith, length-is, ap contentsSize count-is);
+    laid = λ i h. ap isLaidOut (entry-read i (omega (arith, count-is))) ∙ chosen-laid (blockAt values i);
+    end = ap (bodyStart file) count-is ∙ start-is n (omega arith) ∙ sym length-is;
+  }
+
+  -- no block has runs,
+  runs-right : (i : ℕ) → i < count file → hasGoodRuns (entryOf file i) (bodyOf file i) ≡ true
+  runs-right i h = ap (λ e. hasGoodRuns e (bodyOf file i)) (entry-read i (omega (arith, count-is))) ∙ chosen-runs (blockAt values i) (bodyOf file i)
+
+  -- so the file is accepted,
+  pub file-accepted : fileAnswer (fileTests (fileOf values)) ≡ Done
+  file-accepted =
+      done-both (contentsTests file (length file)) _ (accepts file (length file) contents-right) (no-bad-runs file runs-right)
+
+  -- each block is the block that was written,
+  pub block-read : (i : ℕ) → i < n → blockIn (fileOf values) i ≡ blockAt values i
+  unfolding blockIn bodyFor
+  block-read i h =
+      ap₂ (λ e b. blockOf e b) (entry-read i h) (body-read i h) ∙ chosen-restores (blockAt values i) (block-long i h) (block-fits i)
+
+  -- and the rows are the numbers.
+  pub rows-read : rowsOf (fileOf values) ≡ values
+  unfolding rowsOf rowAt
+  rows-read =
+      ap (λ k. tab (1024 * k) (rowAt file)) count-is
+      ∙ sym (is-tab values (1024 * n) (rowAt file) 0 (omega arith) row-is)
+    where
+      row-is : (p : ℕ) → p < 1024 * n → getD values p 0 ≡ rowAt file p
+      row-is p h =
+          let b : p / 1024 < n = omega arith in
+          let q : p % 1024 < 1024 = omega arith in
+          let at : (p / 1024) * 1024 + p % 1024 ≡ p = omega arith in
+          ap (λ k. getD values k 0) (sym at)
+          ∙ sym (getD-cut 1024 values (p / 1024) (p % 1024) 0 q)
+          ∙ ap (λ l. getD l (p % 1024) 0) (sym (block-read (p / 1024) b))

@@ -1,0 +1,57 @@
+-- `writer::write` meets its contract: by the tests, and then the file is laid down.
+-- Assumes nothing.
+use mathlib.Core.Path.{ap, _∙_}
+use native.Mathlib.Omega.{arith}
+use denote.Ref.{now}
+use borrow.Author.Needs.{needs}
+use Rattle.writer.specs.declared.Written.the-variants.{Length}
+use Rattle.writer.proofs.Calls.{no-blocks, too-many, no-room, written}
+use Rattle.writer.proofs.write.Statement.{statement}
+use Rattle.writer.proofs.write.Tie as tie
+
+returns : tie.Need-returns
+returns c =
+    let args = c .before .before .before .args in
+    no-blocks (now (args .values)) (now (args .output)) (c .if1 .taken)
+
+returns-2 : tie.Need-returns-2
+returns-2 c =
+    let args = c .before .before .before .before .args in
+    too-many (now (args .values)) (now (args .output)) (c .before .if1 .left) (c .if2 .taken)
+
+file-size-requires : tie.Need-file-size-requires
+file-size-requires c κs = search needs
+
+returns-3 : tie.Need-returns-3
+returns-3 c =
+    let size = c .before in
+    let few = size .before in
+    let args = few .before .before .before .before .args in
+    no-room (now (args .values)) (now (args .output)) (few .before .if1 .left) (few .if2 .left) (omega (arith, size .file-size .ensures))
+
+lay-file-requires : tie.Need-lay-file-requires
+lay-file-requires c κs = search needs
+
+same-length : tie.Need-same-length
+same-length c = search needs
+
+returns-4 : tie.Need-returns-4
+returns-4 c =
+    let out = c .before .before in
+    let size = out .before .before .before in
+    let few = size .before in
+    let args = few .before .before .before .before .args in
+    let given = written (now (args .values)) (now (args .output)) (few .before .if1 .left) (few .if2 .left) (omega (arith, size .file-size .ensures)) in
+    (ap Length (size .file-size .ensures) ∙ given .0, out .lay-file .ensures ∙ given .1)
+
+pub write-spec : {M : Type 1} → statement M
+write-spec =
+    tie.close
+    (tie.spec
+    returns
+    returns-2
+    file-size-requires
+    returns-3
+    lay-file-requires
+    same-length
+    returns-4)

@@ -1,0 +1,58 @@
+-- The column file that stands for a list of numbers, and what the writer answers and leaves (document 02, Item 3).
+-- Assumes nothing.
+use mathlib.Core.List.{List, [], _∷_, _++_}
+use Prim.Native.Nat.{ℕ, _/_}
+use lib.ListN.{length}
+use Rattle.places.specs.Parts.{cut, joined}
+use Rattle.places.specs.Pick.{pick}
+use Rattle.places.specs.Tab.{over}
+use Rattle.contents.specs.declared.FileAnswer.{FileAnswer}
+use Rattle.contents.specs.declared.FileAnswer.the-variants.{Done}
+use Rattle.contents.specs.Answers.{FileTest, whole-blocks, a-room, fileAnswer, isDone, left}
+use Rattle.contents.specs.Bytes.{headBytes, entryBytes}
+use Rattle.candidates.specs.Candidates.{chosen, bodyFor}
+use Rattle.writer.specs.declared.Written.{Written}
+use Rattle.writer.specs.declared.Written.the-variants.{Length, Refused}
+
+-- The numbers make so many blocks,
+abbrev pub blockCount : (values : List ℕ) → ℕ
+blockCount values = length values / 1024
+
+-- and these are the numbers of block b.
+abbrev pub blockAt : (values : List ℕ) (b : ℕ) → List ℕ
+blockAt values b = cut 1024 values b
+
+-- The contents have the entry of each block's chosen candidate,
+unfoldable pub contentsFor : (values : List ℕ) (n : ℕ) → List ℕ
+contentsFor values n = joined n (λ b. entryBytes (chosen (blockAt values b) .entry))
+
+-- and behind them stand the bodies.
+unfoldable pub bodiesFor : (values : List ℕ) (n : ℕ) → List ℕ
+bodiesFor values n = joined n (λ b. bodyFor (blockAt values b))
+
+-- This is the file of the numbers, from its first byte to its last: edition 1 and the block count, the entries, the bodies.
+unfoldable pub fileOf : (values : List ℕ) → List ℕ
+fileOf values = headBytes (blockCount values) ++ contentsFor values (blockCount values) ++ bodiesFor values (blockCount values)
+
+-- Writing takes whole blocks, at most 256 of them, and an output with room for the file itself.
+abbrev pub writeTests : (values output : List ℕ) → List FileTest
+writeTests values output = whole-blocks (length values) ∷ a-room (length (fileOf values)) (length output) ∷ []
+
+-- It gives the file's length, or the refusal,
+unfoldable pub writtenOf : (values output : List ℕ) → Written
+writtenOf values output =
+    pick (isDone (fileAnswer (writeTests values output))) (Length (length (fileOf values))) (Refused (fileAnswer (writeTests values output)))
+
+-- and leaves the file at the front of the output; the bytes behind it stay.
+unfoldable pub writeLeaves : (values output : List ℕ) → List ℕ
+writeLeaves values output = left (fileAnswer (writeTests values output)) (over 0 (fileOf values) output) output
+
+-- A length stands for an answer that is done, and a refusal for itself.
+abbrev pub answerOf : Written → FileAnswer
+answerOf (Length n) = Done
+answerOf (Refused a) = a
+
+-- After a refusal nothing is written, and 0 stands for the length.
+abbrev pub lengthOf : Written → ℕ
+lengthOf (Length n) = n
+lengthOf (Refused a) = 0

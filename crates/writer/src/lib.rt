@@ -1,0 +1,120 @@
+// The column file is written (document 02, Item 3): 1,024·N numbers become an edition 1 file. Each block is laid down as the crate
+// candidates chooses. The file's length is known before the first byte is written, so a refused call writes nothing.
+use candidates::entry_for;
+use candidates::lay_block;
+use contents::FileAnswer;
+use contents::put_entry;
+use contents::put_head;
+ghost use mathlib.Core.Path.{_≡_};
+ghost use mathlib.Core.List.{_++_};
+ghost use Prim.Native.Nat.{_+_, _*_, _≤_, _<_};
+ghost use lib.ListN.{length};
+ghost use Rattle.places.specs.Tab.{over};
+ghost use Rattle.candidates.specs.Candidates.{chosen, bodyFor};
+ghost use Rattle.contents.specs.Bytes.{entryBytes};
+ghost use Rattle.contents.specs.Contents.{contentsSize};
+ghost use Rattle.writer.specs.Writer.{answerOf, lengthOf, writtenOf, writeLeaves, fileOf, blockCount, blockAt, contentsFor, bodiesFor};
+
+// The length of the file that was written, or the refusal.
+pub enum Written {
+    Length(usize),
+    Refused(FileAnswer),
+}
+
+impl Written {
+    // The answer in the terms of the other calls.
+    pub fn answer(self) -> FileAnswer
+        ensures { λ r. ⌜ r ≡ answerOf self ⌝ }
+    {
+        match self {
+            Written::Length(_) => FileAnswer::Done,
+            Written::Refused(a) => a,
+        }
+    }
+
+    // The length; 0 after a refusal.
+    pub fn length(self) -> usize
+        ensures { λ r. ⌜ r ≡ lengthOf self ⌝ }
+    {
+        match self {
+            Written::Length(n) => n,
+            Written::Refused(_) => 0,
+        }
+    }
+}
+
+// Writes the file of the numbers at the front of the output.
+pub fn write(values: &[u64], output: &mut [u8]) -> Written
+    ensures { λ r. ⌜ r ≡ writtenOf (now (values .entry)) (now (output .entry)) ⌝ }
+    ensures { λ _. ⌜ now (output .exit) ≡ writeLeaves (now (values .entry)) (now (output .entry)) ⌝ }
+{
+    if values.len() % 1024 != 0 {
+        return Written::Refused(FileAnswer::Block);
+    }
+    if 262144 < values.len() {
+        return Written::Refused(FileAnswer::Block);
+    }
+    let size = file_size(values);
+    if output.len() < size {
+        return Written::Refused(FileAnswer::Room);
+    }
+    lay_file(values, output);
+    Written::Length(size)
+}
+
+// How many bytes the file of the numbers has.
+fn file_size(values: &[u64]) -> usize
+    requires { ⌜ length (now values) ≤ 262144 ⌝ }
+    ensures { λ r. ⌜ r ≡ length (fileOf (now (values .entry))) ⌝ }
+{
+    let n = values.len() / 1024;
+    let mut size = 4 + n * 16;
+    let mut i = 0;
+    while i < n {
+        let from = i * 1024;
+        let to = from + 1024;
+        size += entry_for(&values[from..to]).length as usize;
+        i += 1;
+    }
+    size
+}
+
+// The file in an output that has room for it.
+fn lay_file(values: &[u64], output: &mut [u8])
+    requires { ⌜ length (now values) ≤ 262144 ⌝ }
+    requires { ⌜ length (fileOf (now values)) ≤ length (now output) ⌝ }
+    ensures { λ _. ⌜ now (output .exit) ≡ over 0 (fileOf (now (values .entry))) (now (output .entry)) ⌝ }
+{
+    let n = values.len() / 1024;
+    put_head(n as u16, output);
+    lay_blocks(values, output);
+}
+
+// The entries and the bodies of all blocks, behind the first four bytes.
+fn lay_blocks(values: &[u64], output: &mut [u8])
+    requires { ⌜ length (now values) ≤ 262144 ⌝ }
+    requires { ⌜ length (fileOf (now values)) ≤ length (now output) ⌝ }
+    ensures { λ _. ⌜ now (output .exit) ≡ over 4 (contentsFor (now (values .entry)) (blockCount (now (values .entry))) ++ bodiesFor (now (values .entry)) (blockCount (now (values .entry)))) (now (output .entry)) ⌝ }
+{
+    let n = values.len() / 1024;
+    let mut at = 4 + n * 16;
+    let mut i = 0;
+    while i < n {
+        at += lay_one(values, i, at, output);
+        i += 1;
+    }
+}
+
+// Block i: its body from place `at` on, and its entry. Gives the length of the body.
+fn lay_one(values: &[u64], i: usize, at: usize, output: &mut [u8]) -> usize
+    requires { ⌜ i < blockCount (now values) ⌝ }
+    requires { ⌜ (contentsSize (i + 1) ≤ at) × (at + chosen (blockAt (now values) i) .entry .length ≤ length (now output)) ⌝ }
+    ensures { λ r. ⌜ r ≡ chosen (blockAt (now (values .entry)) i) .entry .length ⌝ }
+    ensures { λ _. ⌜ now (output .exit) ≡ over (contentsSize i) (entryBytes (chosen (blockAt (now (values .entry)) i) .entry)) (over at (bodyFor (blockAt (now (values .entry)) i)) (now (output .entry))) ⌝ }
+{
+    let from = i * 1024;
+    let to = from + 1024;
+    let e = lay_block(&values[from..to], &mut output[at..]).entry();
+    put_entry(e, 4 + i * 16, output);
+    e.length as usize
+}
