@@ -29,24 +29,35 @@ module _ (values output : List ℕ) where
   )
 
   -- 2: the numbers are no whole blocks,
+  pub not-whole : (length values % 1024 ≡ 0 → ⊥) → fileAnswer (writeTests values output) ≡ Block
+  not-whole bad = stopped _ _ (ap (λ b. both b (leb (length values) 262144)) (ne-eqb (length values % 1024) 0 bad))
+
   pub no-blocks : (length values % 1024 ≡ 0 → ⊥) → (Refused Block ≡ writtenOf values output) × (output ≡ writeLeaves values output)
-  no-blocks bad = by-answer Block (stopped _ _ (ap (λ b. both b (leb (length values) 262144)) (ne-eqb (length values % 1024) 0 bad)))
+  no-blocks bad = by-answer Block (not-whole bad)
 
   module _ (whole : length values % 1024 ≡ 0) where
     -- or too many.
+    pub over-many : 262144 < length values → fileAnswer (writeTests values output) ≡ Block
+    over-many many = stopped _ _ (ap₂ both (eq-eqb (length values % 1024) 0 whole) (lt-leb (length values) 262144 many))
+
     pub too-many : 262144 < length values → (Refused Block ≡ writtenOf values output) × (output ≡ writeLeaves values output)
-    too-many many =
-        by-answer Block (stopped _ _ (ap₂ both (eq-eqb (length values % 1024) 0 whole) (lt-leb (length values) 262144 many)))
+    too-many many = by-answer Block (over-many many)
 
     module _ (few : length values ≤ 262144) where
       blocks : fileAnswer (writeTests values output) ≡ fileAnswer (a-room (length (fileOf values)) (length output) ∷ [])
       blocks = passed _ _ (ap₂ both (eq-eqb (length values % 1024) 0 whole) (le-leb (length values) 262144 few))
 
       -- 14: the output is shorter than the file.
+      pub blocks-short : length output < length (fileOf values) → fileAnswer (writeTests values output) ≡ Room
+      blocks-short short = blocks ∙ stopped _ _ (lt-leb (length (fileOf values)) (length output) short)
+
       pub no-room : length output < length (fileOf values) → (Refused Room ≡ writtenOf values output) × (output ≡ writeLeaves values output)
-      no-room short = by-answer Room (blocks ∙ stopped _ _ (lt-leb (length (fileOf values)) (length output) short))
+      no-room short = by-answer Room (blocks-short short)
 
       -- 0: else the file is written.
+      pub blocks-room : length (fileOf values) ≤ length output → fileAnswer (writeTests values output) ≡ Done
+      blocks-room room = blocks ∙ passed _ _ (le-leb (length (fileOf values)) (length output) room) ∙ none-left
+
       pub written : length (fileOf values) ≤ length output
           → (Length (length (fileOf values)) ≡ writtenOf values output) × (over 0 (fileOf values) output ≡ writeLeaves values output)
-      written room = by-answer Done (blocks ∙ passed _ _ (le-leb (length (fileOf values)) (length output) room) ∙ none-left)
+      written room = by-answer Done (blocks-room room)

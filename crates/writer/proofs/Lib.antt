@@ -1,3 +1,4 @@
 pub mod Calls
+pub mod Item3
 pub mod Laying
 pub mod ReadBack
