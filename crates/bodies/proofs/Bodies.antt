@@ -69,11 +69,11 @@ laid-plain e good k =
 
 -- The kind says what the block is.
 module _ (e : Entry) (body : List ℕ) where
-  block-packed : e .kind ≡ 0 → blockOf e body ≡ unpackOf t64 (e .width) (packedFrom body 0 (e .width))
+  pub block-packed : e .kind ≡ 0 → blockOf e body ≡ unpackOf t64 (e .width) (packedFrom body 0 (e .width))
   unfolding blockOf
   block-packed k = rw k
 
-  block-frame : e .kind ≡ 1 → blockOf e body ≡ unforPackOf t64 (e .width) (packedFrom body 0 (e .width)) (e .reference)
+  pub block-frame : e .kind ≡ 1 → blockOf e body ≡ unforPackOf t64 (e .width) (packedFrom body 0 (e .width)) (e .reference)
   unfolding blockOf
   block-frame k = rw k
 

@@ -1,19 +1,16 @@
 -- The laws behind the calls on one block: what is measured, and what is answered and left by the tests.
 -- Assumes nothing.
-use mathlib.Core.Bool.{true, false}
-use mathlib.Core.List.{List, [], _∷_, _++_}
+use mathlib.Core.List.{List, _++_}
 use mathlib.Core.Path.{_≡_, refl, sym, ap, ap₂, _∙_}
 use Prim.Native.Nat.{ℕ, _+_, _-_, _*_, _≤_, _<_}
 use native.Mathlib.Omega.{arith}
 use borrow.Author.Tests.{eq-eqb, ne-eqb, le-leb, lt-leb}
-use lib.ListN.{length, getD, take, length-append}
+use lib.ListN.{length, take, length-append}
 use lib.Seq.{length-take-le, getD-take}
 use Rattle.places.specs.Numbers.{Elements}
 use Rattle.places.specs.Pick.{pick}
-use Rattle.places.specs.Places.{place, order}
-use Rattle.places.specs.Sizes.{t64, lanes}
-use Rattle.places.specs.Tab.{tab, over}
-use Rattle.places.proofs.Places.{place-lane}
+use Rattle.places.specs.Sizes.{t64}
+use Rattle.places.specs.Tab.{over}
 use Rattle.places.proofs.Tabs.{is-tab}
 use Rattle.deltas.specs.Calls.{deltaLeaves}
 use Rattle.deltas.specs.Deltas.{deltaOf, forPackOf}
@@ -23,17 +20,16 @@ use Rattle.packing.proofs.Rounds.{length-pack}
 use Rattle.deltas.proofs.Answers.{delta-leaves}
 use Rattle.runs.specs.Highest.{highestOf}
 use Rattle.runs.proofs.Highs.{highest-bound}
-use Rattle.little.specs.Little.{allBytes, writeLeaves}
+use Rattle.little.specs.Little.{writeLeaves}
 use Rattle.little.proofs.Bytes.{write-all, length-all}
 use Rattle.contents.specs.declared.FileAnswer.{FileAnswer}
 use Rattle.contents.specs.declared.FileAnswer.the-variants.{Done, Block, Room}
 use Rattle.contents.specs.Answers.{fileAnswer, isDone, left}
 use Rattle.contents.specs.Contents.{noEntry}
-use Rattle.contents.proofs.Answers.{passed, stopped, none-left}
-use Rattle.candidates.specs.declared.Laid.{Laid}
-use Rattle.candidates.specs.declared.Laid.the-variants.{Block as Written, Refused}
+use Rattle.contents.proofs.Answers.{passed, stopped, none-left, says-answer}
+use Rattle.candidates.specs.declared.Laid.the-variants.{As, Refused}
 use Rattle.candidates.specs.declared.Measures.{Measures}
-use Rattle.candidates.specs.Calls.{entryFor, layTests, laidOf, layLeaves}
+use Rattle.candidates.specs.Calls.{entryFor, layTests, laidOf, layLeaves, answerOf}
 use Rattle.candidates.specs.Candidates.{baseOf, differences, framed, chosen, bodyFor}
 use Rattle.candidates.specs.InnerMeasures.{measuresOf, shorterPart, wordsBy}
 use Rattle.candidates.specs.Widths.{bits, widthOf, lowestOf}
@@ -99,12 +95,17 @@ module _ (values : List ℕ) where
 module _ (values output : List ℕ) where
   -- An answer decides what is given and left.
   laid-by : (a : FileAnswer) → fileAnswer (layTests values output) ≡ a
-      → (laidOf values output ≡ pick (isDone a) (Written (chosen values .entry)) (Refused a)) × (layLeaves values output ≡ left a (over 0 (bodyFor values) output) output)
+      → (laidOf values output ≡ pick (isDone a) (As (chosen values .entry)) (Refused a)) × (layLeaves values output ≡ left a (over 0 (bodyFor values) output) output)
   unfolding laidOf layLeaves
   laid-by a e = (
-    ap (λ x. pick (isDone x) (Written (chosen values .entry)) (Refused x)) e,
+    ap (λ x. pick (isDone x) (As (chosen values .entry)) (Refused x)) e,
     ap (λ x. left x (over 0 (bodyFor values) output) output) e,
   )
+
+  -- What is given back says the answer.
+  pub lay-answers : answerOf (laidOf values output) ≡ fileAnswer (layTests values output)
+  unfolding laidOf
+  lay-answers = says-answer answerOf (As (chosen values .entry)) Refused refl (λ a. refl) (fileAnswer (layTests values output))
 
   pub bad-values : (length values ≡ 1024 → ⊥) → (Refused Block ≡ laidOf values output) × (output ≡ layLeaves values output)
   bad-values bad =
@@ -119,13 +120,13 @@ module _ (values output : List ℕ) where
         (sym (l .0), sym (l .1))
 
     pub laid-there : chosen values .entry .length ≤ length output
-        → (laidOf values output ≡ Written (chosen values .entry)) × (layLeaves values output ≡ over 0 (bodyFor values) output)
+        → (laidOf values output ≡ As (chosen values .entry)) × (layLeaves values output ≡ over 0 (bodyFor values) output)
     laid-there h =
         let room : length (bodyFor values) ≤ length output = omega (arith, body-sized values) in
         laid-by Done (passed _ _ (eq-eqb (length values) 1024 long) ∙ passed _ _ (le-leb (length (bodyFor values)) (length output) room) ∙ none-left)
 
     pub laid : chosen values .entry .length ≤ length output
-        → (Written (chosen values .entry) ≡ laidOf values output) × (writeLeaves 8 (chosen values .words) output ≡ layLeaves values output)
+        → (As (chosen values .entry) ≡ laidOf values output) × (writeLeaves 8 (chosen values .words) output ≡ layLeaves values output)
     unfolding bodyFor
     laid h =
         let l = laid-there h in

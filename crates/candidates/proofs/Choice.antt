@@ -2,17 +2,17 @@
 -- is shorter than the chosen one, and no equally long one is of a lower kind.
 -- Assumes nothing.
 use mathlib.Core.Bool.{Bool, true, false}
-use mathlib.Core.List.{List, _++_}
+use mathlib.Core.List.{List}
 use mathlib.Core.Logic.{inl, inr}
-use mathlib.Core.Path.{_≡_, refl, sym, ap, ap₂, _∙_, subst}
-use Prim.Native.Nat.{ℕ, zero, suc, _+_, _*_, _≤_, _<_}
+use mathlib.Core.Path.{_≡_, refl, sym, ap, _∙_, subst}
+use Prim.Native.Nat.{ℕ, zero, suc, _*_, _≤_, _<_}
 use native.Mathlib.Omega.{arith}
 use borrow.Author.Tests.{leb-true, leb-false, le-leb, lt-leb}
-use lib.Dec.{leb}
+use lib.Dec.{eqb, leb}
 use lib.ListN.{length, take, length-append}
 use lib.Seq.{length-take-le}
 use Rattle.places.specs.Pick.{pick}
-use Rattle.places.specs.Sizes.{t64, lanes}
+use Rattle.places.specs.Sizes.{t64}
 use Rattle.places.specs.Tab.{over}
 use Rattle.places.proofs.Overs.{over-front}
 use Rattle.places.proofs.Tabs.{length-tab}
@@ -86,7 +86,7 @@ module _ (a b : Candidate) where
       go true = refl
       go false = refl
 
-  -- Neither is shorter than what is taken, and the second is taken only where it is shorter.
+  -- Neither is shorter than what is taken.
   pub shorter-least : (shorter a b .entry .length ≤ a .entry .length) × (shorter a b .entry .length ≤ b .entry .length)
   unfolding shorter
   shorter-least = go (leb (a .entry .length) (b .entry .length)) refl
@@ -196,6 +196,21 @@ module _ (values : List ℕ) where
   pub chosen-width : chosen values .entry .width ≡ widthOf (packs (chosen values .entry .kind) values)
   unfolding packs plainAt frameAt stepsAt
   chosen-width = of-chosen values (λ c. c .entry .width ≡ widthOf (packs (c .entry .kind) values)) refl refl refl
+
+  -- The candidates by their kind are the three.
+  pub candidates-are : (candidate 0 values ≡ plain values) × ((candidate 1 values ≡ frame values) × (candidate 2 values ≡ steps values))
+  unfolding candidateAt packs
+  candidates-are = (refl, (refl, refl))
+
+  -- What an entry says is the length of the body in bytes.
+  pub candidate-sized : (kind : ℕ) → length (allBytes 8 (candidate kind values .words)) ≡ candidate kind values .entry .length
+  unfolding candidateAt
+  candidate-sized kind = length-all 8 (candidate kind values .words) ∙ sym (go (eqb kind 0) (eqb kind 1) (widthOf (packs kind values)))
+    where
+      go : (a b : Bool) (w : ℕ) → Sized (pick a (plainAt w values) (pick b (frameAt w values) (stepsAt w values)))
+      go true b w = plain-sized w values
+      go false true w = frame-sized w values
+      go false false w = steps-sized w values
 
   -- No candidate has a shorter body, and none of an equally long body has a lower kind.
   pub chosen-shortest : (kind : ℕ) → kind ≤ 2

@@ -3,32 +3,34 @@
 -- Assumes nothing.
 use mathlib.Core.List.{List, [], _++_, append-nil}
 use mathlib.Core.Logic.{_↔_}
-use mathlib.Core.Path.{_≡_, refl, sym, ap, ap₂, _∙_, subst}
+use mathlib.Core.Path.{_≡_, sym, ap, ap₂, _∙_, subst}
 use Prim.Native.Nat.{ℕ, zero, suc, _+_, _*_, _^_, _≤_, _<_}
-use native.Mathlib.Nat.{le-refl}
+use native.Mathlib.Decide.{decLe}
+use native.Mathlib.Nat.{le-refl, lt-of-lt-of-le}
 use native.Mathlib.Omega.{arith}
-use lib.ListN.{length, getD, drop, length-append}
+use lib.ListN.{length, getD, drop}
+use lib.Pow.{pow-mono}
 use lib.Seq.{ext-getD, drop-at}
-use Rattle.places.specs.Numbers.{minus, Elements}
+use Rattle.places.specs.Numbers.{plus, minus, Elements}
 use Rattle.places.specs.Places.{place}
 use Rattle.places.specs.Sizes.{t64, lanes}
-use Rattle.places.specs.Tab.{tab}
 use Rattle.places.proofs.Digits.{elements-of}
 use Rattle.places.proofs.Places.{size64}
 use Rattle.places.proofs.Tabs.{length-tab, getD-tab}
-use Rattle.packing.specs.Packed.{packOf, unpackOf}
-use Rattle.packing.proofs.Rounds.{length-pack, pack-fits, restores}
+use Rattle.packing.specs.Packed.{packOf, unpackOf, valueAt}
+use Rattle.packing.proofs.Rounds.{length-pack, pack-fits, length-unpack, unpack-at, unpack-fits, restores}
 use Rattle.deltas.specs.Deltas.{deltaOf, frameOf, forPackOf, unforPackOf, undeltaPackOf}
-use Rattle.deltas.proofs.Demand3.{frame-restores, delta-restores}
-use Rattle.deltas.proofs.Lanes.{minus-lt, length-delta, length-for-pack}
+use Rattle.deltas.proofs.Demand3.{delta-undelta, undelta-pack-is, frame-restores, delta-restores}
+use Rattle.deltas.proofs.Lanes.{minus-lt, minus-plus, elements-unpack, length-delta, length-for-pack}
 use Rattle.little.specs.Little.{numbersOf, allBytes}
 use Rattle.little.proofs.Bytes.{length-all, all-append, numbers-all}
 use Rattle.contents.specs.declared.Entry.{Entry}
 use Rattle.bodies.specs.Bodies.{blockOf, wordsFrom, packedFrom}
-use Rattle.candidates.specs.Candidates.{Candidate, plainAt, frameAt, stepsAt, plain, frame, steps, framed, baseOf, differences, chosen}
+use Rattle.bodies.proofs.Bodies.{block-packed, block-frame, block-differences}
+use Rattle.candidates.specs.Candidates.{plainAt, frameAt, stepsAt, framed, baseOf, differences, chosen}
 use Rattle.candidates.specs.Restored.{restored, candidateAt, packs}
 use Rattle.candidates.specs.Widths.{widthOf, lowestOf}
-use Rattle.candidates.proofs.Choice.{length-base, chosen-candidate, chosen-kind, chosen-width}
+use Rattle.candidates.proofs.Choice.{length-base, Which, is-plain, is-frame, is-steps, which, chosen-candidate, chosen-kind, chosen-width}
 use Rattle.candidates.proofs.Widths.{width-fits, width-most, lowest-element}
 
 -- The words of a body are read back from its bytes: those at the front,
@@ -151,3 +153,60 @@ module _ (values : List ℕ) (long : length values ≡ 1024) (fits : Elements t6
       let most : widthOf (packs kind values) ≤ 64 = width-most (packs kind values) in
       let least : widthOf (packs kind values) ≤ w = kind-restores kind (chosen-kind values) w (omega arith) .0 same in
       omega arith
+
+  -- Not only what is packed here: no packed words whatever give the block at a smaller width. At width w every number that is unpacked is
+  -- below 2^w.
+  plain-narrow : (w : ℕ) (packed : List ℕ) → unpackOf t64 w packed ≡ values → widthOf values ≤ w
+  plain-narrow w packed same =
+      fits-places values long fits w .0 (λ p h. subst (λ l. getD l p 0 < 2 ^ w) same (unpack-fits t64 w packed p h))
+
+  frame-narrow : (w : ℕ) (packed : List ℕ) → w ≤ 64 → unforPackOf t64 w packed (lowestOf values) ≡ values → widthOf (framed values) ≤ w
+  unfolding unforPackOf frameOf
+  frame-narrow w packed h same = fits-places (framed values) (length-tab 1024 _) frame-fits w .0 below
+    where
+      below : (p : ℕ) → p < 1024 → getD (framed values) p 0 < 2 ^ w
+      below p b =
+          let x : ℕ = valueAt t64 w packed p in
+          let small : x < 2 ^ w = subst (λ n. n < 2 ^ w) (unpack-at t64 w packed p b) (unpack-fits t64 w packed p b) in
+          let there : getD values p 0 ≡ plus t64 x (lowestOf values) =
+          ap (λ l. getD l p 0) (sym same) ∙ getD-tab 1024 (λ p. plus t64 (valueAt t64 w packed p) (lowestOf values)) p 0 b in
+          let back : getD (framed values) p 0 ≡ x =
+          getD-tab 1024 (λ p. minus t64 (getD values p 0) (lowestOf values)) p 0 b
+          ∙ ap (λ n. minus t64 n (lowestOf values)) there
+          ∙ minus-plus t64 x (lowestOf values) (lt-of-lt-of-le small (pow-mono h)) (lowest-element values) in
+          subst (λ n. n < 2 ^ w) (sym back) small
+
+  steps-narrow : (w : ℕ) (packed : List ℕ) → w ≤ 64 → undeltaPackOf t64 w packed (baseOf values) ≡ values → widthOf (differences values) ≤ w
+  steps-narrow w packed h same =
+      let n : List ℕ = unpackOf t64 w packed in
+      let back : differences values ≡ n =
+      ap (λ v. deltaOf t64 v (baseOf values)) (sym same ∙ undelta-pack-is size64 w packed (baseOf values))
+      ∙ delta-undelta size64 n (baseOf values) (length-unpack t64 w packed) (elements-unpack t64 w h packed) base-fits in
+      fits-places (differences values) (length-delta t64 values (baseOf values)) differences-fit w .0
+      (λ p b. subst (λ l. getD l p 0 < 2 ^ w) (sym back) (unpack-fits t64 w packed p b))
+
+  -- So an entry and a body of the kind that was chosen, with its reference or base, that give the block are at least as wide.
+  pub no-narrower : (e : Entry) (body : List ℕ) → e .kind ≡ chosen values .entry .kind → e .reference ≡ chosen values .entry .reference
+      → (e .kind ≡ 2 → wordsFrom body 0 (lanes t64) ≡ baseOf values) → blockOf e body ≡ values → chosen values .entry .width ≤ e .width
+  unfolding plainAt frameAt stepsAt
+  no-narrower e body kind reference base same =
+      elim (decLe (e .width) 64) [
+        | no wide ↦ let most : chosen values .entry .width ≤ 64 = subst (λ w. w ≤ 64) (sym (chosen-width values)) (width-most _) in omega arith
+        | yes h ↦ by-kind h (which values)
+      ]
+    where
+      by-kind : e .width ≤ 64 → Which values → chosen values .entry .width ≤ e .width
+      by-kind h (is-plain c _ _) =
+          subst (λ c. c .entry .width ≤ e .width) (sym c)
+          (plain-narrow (e .width) _ (sym (block-packed e body (kind ∙ ap (λ c. c .entry .kind) c)) ∙ same))
+      by-kind h (is-frame c _ _) =
+          let words : List ℕ = packedFrom body 0 (e .width) in
+          let low : e .reference ≡ lowestOf values = reference ∙ ap (λ c. c .entry .reference) c in
+          subst (λ c. c .entry .width ≤ e .width) (sym c)
+          (frame-narrow (e .width) words h
+          (ap (unforPackOf t64 (e .width) words) (sym low) ∙ sym (block-frame e body (kind ∙ ap (λ c. c .entry .kind) c)) ∙ same))
+      by-kind h (is-steps c _ _) =
+          let words : List ℕ = packedFrom body 128 (e .width) in
+          let k : e .kind ≡ 2 = kind ∙ ap (λ c. c .entry .kind) c in
+          subst (λ c. c .entry .width ≤ e .width) (sym c)
+          (steps-narrow (e .width) words h (ap (undeltaPackOf t64 (e .width) words) (sym (base k)) ∙ sym (block-differences e body k) ∙ same))

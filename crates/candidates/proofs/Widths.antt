@@ -1,16 +1,15 @@
 -- The laws of the least width, of the lowest number and of the highest.
 -- Assumes nothing.
-use mathlib.Core.Bool.{true, false}
 use mathlib.Core.List.{List, [], _∷_}
 use mathlib.Core.Logic.{_↔_}
-use mathlib.Core.Path.{_≡_, refl, sym, ap, _∙_}
-use Prim.Native.Nat.{ℕ, zero, suc, _+_, _-_, _*_, _%_, _^_, _≤_, _<_, max, min, zero-le, suc-le-suc}
+use mathlib.Core.Path.{_≡_, sym, ap, _∙_}
+use Prim.Native.Nat.{ℕ, zero, suc, _+_, _-_, _%_, _^_, _≤_, _<_, min, zero-le, suc-le-suc}
 use native.Mathlib.Decide.{decLe}
 use native.Mathlib.Nat.{le-of-suc-le-suc, not-suc-le-zero, lt-of-lt-of-le, lt-of-le-of-lt, pow-suc, mod-eq-of-lt}
 use native.Mathlib.Numerals.{add-one}
 use native.Mathlib.Omega.{arith}
 use borrow.Author.Tests.{leb-true, leb-false, le-leb, lt-leb}
-use lib.Count.{leadingZeros, leading-length, leading-le}
+use lib.Count.{leadingZeros, leading-length}
 use lib.Dec.{leb}
 use lib.ListN.{length, getD, drop, drop-of-length-le}
 use lib.Pow.{pow-mono, pow-pos}
@@ -23,7 +22,6 @@ use Rattle.deltas.specs.Deltas.{frameOf}
 use Rattle.deltas.proofs.Lanes.{minus-only}
 use Rattle.runs.specs.Highest.{highestOf}
 use Rattle.runs.proofs.Highs.{highest-bound, highest-below}
-use Rattle.contents.specs.First.{firstBad}
 use Rattle.contents.proofs.First.{first-le, first-before, first-at, first-only}
 use Rattle.candidates.specs.Widths.{bits, widthOf, lowestOf}
 
@@ -90,14 +88,26 @@ highest-stands (x ∷ y ∷ ys) h =
       | no high ↦ (suc (rest .0), suc-le-suc (rest .1), rest .2 ∙ omega arith)
     ]
 
--- No number of a list is lower than the lowest,
+-- No number of a list is lower than the lowest;
 pub lowest-bound : (xs : List ℕ) (i : ℕ) → i < length xs → lowestOf xs ≤ getD xs i 0
 unfolding lowestOf
 lowest-bound [] i h = absurd (not-suc-le-zero h)
 lowest-bound (x ∷ xs) zero h = omega arith
 lowest-bound (x ∷ xs) (suc i) h = let m : lowestOf xs ≤ getD xs i 0 = lowest-bound xs i (le-of-suc-le-suc h) in omega arith
 
--- which is a number of 64 bits.
+-- the lowest of a list of elements that is not empty stands in it,
+pub lowest-stands : (xs : List ℕ) → 0 < length xs → Elements t64 xs → (i : ℕ) × (i < length xs) × (getD xs i 0 ≡ lowestOf xs)
+unfolding lowestOf
+lowest-stands [] h fits = absurd (not-suc-le-zero h)
+lowest-stands (x ∷ []) h fits = let small : x < 2 ^ 64 = fits 0 in (zero, h, omega arith)
+lowest-stands (x ∷ y ∷ ys) h fits =
+    let rest = lowest-stands (y ∷ ys) (suc-le-suc zero-le) (λ i. fits (suc i)) in
+    elim (decLe x (lowestOf (y ∷ ys))) [
+      | yes low ↦ (zero, suc-le-suc zero-le, omega arith)
+      | no high ↦ (suc (rest .0), suc-le-suc (rest .1), rest .2 ∙ omega arith)
+    ]
+
+-- and it is a number of 64 bits.
 pub lowest-element : (xs : List ℕ) → lowestOf xs < 2 ^ 64
 unfolding lowestOf
 lowest-element [] = omega arith

@@ -1,4 +1,4 @@
--- What the calls on one block answer and leave (document 02, Item 3): the entry that the writer gives a block, and the body laid down.
+-- What the calls on one block answer and leave (document 02, Item 3): the entry that the writer gives a block, and the body written.
 -- Assumes nothing.
 use mathlib.Core.List.{List, [], _∷_}
 use Prim.Native.Nat.{ℕ}
@@ -12,20 +12,20 @@ use Rattle.contents.specs.declared.FileAnswer.the-variants.{Done}
 use Rattle.contents.specs.Answers.{FileTest, a-block, a-room, fileAnswer, isDone, left}
 use Rattle.contents.specs.Contents.{noEntry}
 use Rattle.candidates.specs.declared.Laid.{Laid}
-use Rattle.candidates.specs.declared.Laid.the-variants.{Block, Refused}
+use Rattle.candidates.specs.declared.Laid.the-variants.{As, Refused}
 use Rattle.candidates.specs.Candidates.{chosen, bodyFor}
 
 -- This is the entry of a block of 1,024 numbers; another list has no entry.
 unfoldable pub entryFor : (values : List ℕ) → Entry
 entryFor values = pick (long 1024 values) (chosen values .entry) noEntry
 
--- Laying a block down takes 1,024 numbers, and an output with room for the body.
+-- Writing the body of a block takes 1,024 numbers, and an output with room for the body.
 abbrev pub layTests : (values output : List ℕ) → List FileTest
 layTests values output = a-block values ∷ a-room (length (bodyFor values)) (length output) ∷ []
 
 -- It gives the block's entry, or the refusal,
 unfoldable pub laidOf : (values output : List ℕ) → Laid
-laidOf values output = pick (isDone (fileAnswer (layTests values output))) (Block (chosen values .entry)) (Refused (fileAnswer (layTests values output)))
+laidOf values output = pick (isDone (fileAnswer (layTests values output))) (As (chosen values .entry)) (Refused (fileAnswer (layTests values output)))
 
 -- and leaves the body at the front of the output; the bytes behind it stay.
 unfoldable pub layLeaves : (values output : List ℕ) → List ℕ
@@ -33,10 +33,10 @@ layLeaves values output = left (fileAnswer (layTests values output)) (over 0 (bo
 
 -- An entry stands for an answer that is done, and a refusal for itself.
 abbrev pub answerOf : Laid → FileAnswer
-answerOf (Block e) = Done
+answerOf (As e) = Done
 answerOf (Refused a) = a
 
 -- After a refusal there is no entry.
-abbrev pub entryOf : Laid → Entry
-entryOf (Block e) = e
-entryOf (Refused a) = noEntry
+abbrev pub entryLaid : Laid → Entry
+entryLaid (As e) = e
+entryLaid (Refused a) = noEntry

@@ -36,8 +36,8 @@ entryBy m =
 unfoldable pub shorterPart : (a b : List ℕ) → List ℕ
 shorterPart a b = pick (leb (length a) (length b)) a b
 
--- So does the choice among the bodies.
-unfoldable pub wordsBy : (m : Measures) (values differences : List ℕ) → List ℕ
-wordsBy m values differences =
+-- The choice among the bodies goes by their lengths, which follow from what was measured.
+unfoldable pub wordsBy : (m : Measures) (values numbers : List ℕ) → List ℕ
+wordsBy m values numbers =
     shorterPart (shorterPart (packOf t64 (m .plain) values) (forPackOf t64 (m .frame) values (m .low)))
-    (baseOf values ++ packOf t64 (m .steps) differences)
+    (baseOf values ++ packOf t64 (m .steps) numbers)

@@ -14,7 +14,7 @@ use Rattle.candidates.specs.Widths.{widthOf}
 abbrev pub restored : (c : Candidate) → List ℕ
 restored c = blockOf (c .entry) (allBytes 8 (c .words))
 
--- This is the candidate of a kind at width w: of kind 0, 1 or 2, and there is no other.
+-- This is the candidate of a kind at width w. There are the kinds 0, 1 and 2, and every other number stands for kind 2.
 unfoldable pub candidateAt : (kind w : ℕ) (values : List ℕ) → Candidate
 candidateAt kind w values = pick (eqb kind 0) (plainAt w values) (pick (eqb kind 1) (frameAt w values) (stepsAt w values))
 
@@ -22,6 +22,6 @@ candidateAt kind w values = pick (eqb kind 0) (plainAt w values) (pick (eqb kind
 unfoldable pub packs : (kind : ℕ) (values : List ℕ) → List ℕ
 packs kind values = pick (eqb kind 0) values (pick (eqb kind 1) (framed values) (differences values))
 
--- This is the candidate of a kind: it stands at the least width that holds them.
+-- This is the candidate of a kind, at the least width that holds the numbers that it packs.
 abbrev pub candidate : (kind : ℕ) (values : List ℕ) → Candidate
 candidate kind values = candidateAt kind (widthOf (packs kind values)) values

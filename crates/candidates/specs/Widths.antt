@@ -7,8 +7,8 @@ use lib.Dec.{leb}
 use Rattle.runs.specs.Highest.{highestOf}
 use Rattle.contents.specs.First.{firstBad}
 
--- This is the least width that holds m: the lowest width w at which 2^w is not at most m, so that m is below 2^w. A number of 64 bits has
--- one of at most 64.
+-- This is the least width that holds m: the lowest width w at which 2^w is not at most m, so that m is below 2^w. It is 64 where no lower
+-- one holds m, and 64 bits hold every number that the calls take.
 unfoldable pub bits : (m : ℕ) → ℕ
 bits m = firstBad 64 (λ w. leb (2 ^ w) m)
 

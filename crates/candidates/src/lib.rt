@@ -1,6 +1,6 @@
 // What the writer lays down for one block (document 02, Item 3). There are three candidates: the packed block, the frame over
-// its lowest number, and the differences from each lane's first number. Each is at the least width that restores the block.
-// The shortest is chosen, and of two that are equally long the one of the lower kind.
+// its lowest number, and the differences from row to row, with each lane's number in row 0 as base. Each is at the least width
+// that restores the block. The shortest is chosen, and of two that are equally long the one of the lower kind.
 //
 // A body is a list of words until it is chosen, and the chosen one alone becomes bytes.
 use contents::Entry;
@@ -15,23 +15,21 @@ use rows::t64::store;
 ghost use mathlib.Core.Path.{_≡_};
 ghost use mathlib.Core.List.{_++_};
 ghost use Prim.Native.Nat.{_+_, _*_, _≤_};
-ghost use lib.Dec.{leb};
 ghost use lib.ListN.{length, take};
-ghost use Rattle.places.specs.Pick.{pick};
 ghost use Rattle.places.specs.Sizes.{t64};
 ghost use Rattle.places.specs.Tab.{over};
 ghost use Rattle.packing.specs.Packed.{packOf};
 ghost use Rattle.deltas.specs.Deltas.{forPackOf};
 ghost use Rattle.runs.specs.Highest.{highestOf};
 ghost use Rattle.little.specs.Little.{writeLeaves};
-ghost use Rattle.candidates.specs.Calls.{entryFor, laidOf, layLeaves, answerOf, entryOf};
+ghost use Rattle.candidates.specs.Calls.{entryFor, laidOf, layLeaves, answerOf, entryLaid};
 ghost use Rattle.candidates.specs.Candidates.{packedEntry, baseOf, differences as differencesOf, chosen};
 ghost use Rattle.candidates.specs.InnerMeasures.{measuresOf, entryBy, shorterEntry, shorterPart, wordsBy};
 ghost use Rattle.candidates.specs.Widths.{bits, lowestOf};
 
 // The entry of a block that was laid down, or the refusal.
 pub enum Laid {
-    Block(Entry),
+    As(Entry),
     Refused(FileAnswer),
 }
 
@@ -41,28 +39,28 @@ impl Laid {
         ensures { λ r. ⌜ r ≡ answerOf self ⌝ }
     {
         match self {
-            Laid::Block(_) => FileAnswer::Done,
+            Laid::As(_) => FileAnswer::Done,
             Laid::Refused(a) => a,
         }
     }
 
     // The entry; after a refusal one of no kind.
     pub fn entry(self) -> Entry
-        ensures { λ r. ⌜ r ≡ entryOf self ⌝ }
+        ensures { λ r. ⌜ r ≡ entryLaid self ⌝ }
     {
         match self {
-            Laid::Block(e) => e,
+            Laid::As(e) => e,
             Laid::Refused(_) => no_entry(),
         }
     }
 }
 
 // What is measured of a block: its lowest number, and the widths of the three candidates.
-pub struct Measures {
-    pub low: u64,
-    pub plain: usize,
-    pub frame: usize,
-    pub steps: usize,
+struct Measures {
+    low: u64,
+    plain: usize,
+    frame: usize,
+    steps: usize,
 }
 
 // The entry of the candidate that is chosen for a block; one of no kind where there are not 1,024 numbers.
@@ -92,10 +90,11 @@ pub fn lay_block(values: &[u64], output: &mut [u8]) -> Laid
         return Laid::Refused(FileAnswer::Room);
     }
     lay_shortest(m, values, &differences, output);
-    Laid::Block(e)
+    Laid::As(e)
 }
 
-// Measures a block, and leaves its differences behind, which are packed later.
+// Measures a block, and leaves its differences behind, which are packed later. No number is below the lowest, so the highest number
+// of the frame is the highest less the lowest. Row 0 of lane l stands at place l, so the base is the first sixteen numbers.
 fn measure(values: &[u64], differences: &mut [u64]) -> Measures
     requires { ⌜ length (now values) ≡ 1024 ⌝ }
     requires { ⌜ length (now differences) ≡ 1024 ⌝ }
@@ -152,7 +151,8 @@ fn width_of(m: u64) -> usize
     (64 - u64::leading_zeros(m)) as usize
 }
 
-// The entry of the shortest candidate, which are compared two at a time.
+// The entry of the shortest candidate. The entries are compared two at a time, and so are the bodies in `write_shortest`; both go by
+// the length, so they choose the same one.
 fn entry_by(m: Measures) -> Entry
     requires { ⌜ (m .plain ≤ 64) × ((m .frame ≤ 64) × (m .steps ≤ 64)) ⌝ }
     ensures { λ r. ⌜ r ≡ entryBy m ⌝ }
@@ -163,6 +163,7 @@ fn entry_by(m: Measures) -> Entry
     shorter_entry(shorter_entry(plain, frame), steps)
 }
 
+// The entry of a packed body of this width, with `more` bytes in front.
 fn packed_entry(kind: u8, width: usize, more: u32, reference: u64) -> Entry
     requires { ⌜ (width ≤ 64) × (more ≤ 128) ⌝ }
     ensures { λ r. ⌜ r ≡ packedEntry kind width more reference ⌝ }
@@ -186,7 +187,8 @@ fn shorter_entry(a: Entry, b: Entry) -> Entry
     b
 }
 
-// The candidates, each in an array of its own, and the bytes of the shortest. An array has room for the longest body of its kind.
+// Lays the candidates down, each in an array of its own, and writes the bytes of the shortest. An array has room for the longest
+// body of its kind.
 fn lay_shortest(m: Measures, values: &[u64], differences: &[u64], output: &mut [u8])
     requires { ⌜ (m .plain ≤ 64) × ((m .frame ≤ 64) × (m .steps ≤ 64)) ⌝ }
     requires { ⌜ length (now values) ≡ 1024 ⌝ }
@@ -202,6 +204,7 @@ fn lay_shortest(m: Measures, values: &[u64], differences: &[u64], output: &mut [
     write_shortest(m, &plain, &frame, &steps, output);
 }
 
+// Packs the numbers at the front of the words.
 fn fill_plain(width: usize, values: &[u64], words: &mut [u64])
     requires { ⌜ width ≤ 64 ⌝ }
     requires { ⌜ length (now values) ≡ 1024 ⌝ }
@@ -212,6 +215,7 @@ fn fill_plain(width: usize, values: &[u64], words: &mut [u64])
     pack(width, values, &mut words[..n]);
 }
 
+// Packs the numbers less the reference at the front of the words.
 fn fill_frame(width: usize, values: &[u64], reference: u64, words: &mut [u64])
     requires { ⌜ width ≤ 64 ⌝ }
     requires { ⌜ length (now values) ≡ 1024 ⌝ }
@@ -222,6 +226,8 @@ fn fill_frame(width: usize, values: &[u64], reference: u64, words: &mut [u64])
     for_pack(width, values, reference, &mut words[..n]);
 }
 
+// Puts the base at the front of the words, and packs the differences behind it. Row 0 of lane l stands at place l, so the base is
+// the first row.
 fn fill_steps(width: usize, values: &[u64], differences: &[u64], words: &mut [u64])
     requires { ⌜ width ≤ 64 ⌝ }
     requires { ⌜ length (now values) ≡ 1024 ⌝ }
@@ -234,7 +240,7 @@ fn fill_steps(width: usize, values: &[u64], differences: &[u64], words: &mut [u6
     pack(width, differences, &mut words[16..end]);
 }
 
-// The three candidates are the fronts of three lists. Writes the bytes of the shortest.
+// Writes the bytes of the shortest of three candidates, which are the fronts of three lists.
 fn write_shortest<'a>(
     m: Measures,
     plain: &'a [u64],

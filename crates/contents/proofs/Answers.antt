@@ -5,12 +5,14 @@ use mathlib.Core.Bool.{Bool, true, false}
 use mathlib.Core.List.{List, [], _∷_, _++_}
 use mathlib.Core.Path.{_≡_, refl, sym, ap, _∙_}
 use Prim.Native.Nat.{ℕ}
+use native.Mathlib.Decide.{ℕ-discrete}
 use native.Mathlib.Omega.{arith}
-use borrow.Author.Tests.{ne-eqb}
+use borrow.Author.Tests.{eq-eqb, ne-eqb}
 use Rattle.places.specs.Answers.{unless}
+use Rattle.places.specs.Pick.{pick}
 use Rattle.contents.specs.declared.FileAnswer.{FileAnswer}
 use Rattle.contents.specs.declared.FileAnswer.the-variants.{Done, Block, Cut, Edition, BadEntry, Over, Beyond, Runs, Room}
-use Rattle.contents.specs.Answers.{FileTest, a-block, enough, an-edition, laid-out, an-end, a-number, good-runs, whole-blocks, a-room, passes, refusal, fileAnswer, numberOf, left}
+use Rattle.contents.specs.Answers.{FileTest, a-block, enough, an-edition, laid-out, an-end, a-number, good-runs, whole-blocks, a-room, passes, refusal, fileAnswer, numberOf, isDone, left}
 
 module _ (x : FileTest) (xs : List FileTest) where
   pub passed : passes x ≡ true → fileAnswer (x ∷ xs) ≡ fileAnswer xs
@@ -71,3 +73,12 @@ number-done Over e = absurd (omega arith)
 number-done Beyond e = absurd (omega arith)
 number-done (Runs p) e = absurd (omega arith)
 number-done Room e = absurd (omega arith)
+
+-- What is given back is something where the answer is done and the refusal where it is not, so it says the answer.
+pub says-answer : {R : Type 0} (answerOf : R → FileAnswer) (done : R) (refused : FileAnswer → R)
+    → answerOf done ≡ Done → ((a : FileAnswer) → answerOf (refused a) ≡ a) → (a : FileAnswer) → answerOf (pick (isDone a) done (refused a)) ≡ a
+says-answer answerOf done refused of-done of-refused a =
+    elim (ℕ-discrete (numberOf a) 0) [
+      | yes zero ↦ ap (λ b. answerOf (pick b done (refused a))) (eq-eqb (numberOf a) 0 zero) ∙ of-done ∙ sym (number-done a zero)
+      | no other ↦ ap (λ b. answerOf (pick b done (refused a))) (ne-eqb (numberOf a) 0 other) ∙ of-refused a
+    ]

@@ -1,5 +1,5 @@
 -- What a call on a column file answers: document 02's numbers and places, the tests that it makes (Items 1 and 3, "Refusals, in
--- order"), and what it leaves in a lent buffer. The tests of a call stand in a list, in Item 1's own order, which is not the order of the numbers.
+-- order"), and what it leaves in a lent buffer. The tests of a call stand in a list, in the order of its item, which is not that of the numbers.
 -- Assumes nothing.
 use mathlib.Core.Bool.{Bool}
 use mathlib.Core.List.{List}
@@ -37,8 +37,8 @@ placeOf Room = 0
 
 -- These are the things that a call on a file tests.
 pub data FileTest : Type 0 where
-  -- The output for a block is 1,024 long.
-  a-block : (output : List ℕ) → FileTest
+  -- A block that is lent is 1,024 long.
+  a-block : (block : List ℕ) → FileTest
   -- There are as many bytes as are needed.
   enough : (needed there : ℕ) → FileTest
   -- The edition is 1, and there are at most 256 blocks.
@@ -58,7 +58,7 @@ pub data FileTest : Type 0 where
 
 -- This is the test itself.
 abbrev pub passes : FileTest → Bool
-passes (a-block output) = eqb (length output) 1024
+passes (a-block block) = eqb (length block) 1024
 passes (enough needed there) = leb needed there
 passes (an-edition edition count) = both (eqb edition 1) (leb count 256)
 passes (laid-out lowest count) = eqb lowest count
@@ -70,7 +70,7 @@ passes (a-room needed there) = leb needed there
 
 -- This is the refusal where it fails.
 abbrev pub refusal : FileTest → FileAnswer
-refusal (a-block output) = Block
+refusal (a-block block) = Block
 refusal (enough needed there) = Cut
 refusal (an-edition edition count) = Edition
 refusal (laid-out lowest count) = BadEntry lowest

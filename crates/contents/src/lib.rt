@@ -1,6 +1,6 @@
 // The contents of a column file (document 02, Item 1): edition, block count, and an entry for each block. Here they are read
 // and tested against the file's length, and nothing else of the file is needed for that: a program that holds no more than
-// the front of a file can ask here whether the file's contents are right.
+// the front of a file can ask here whether the file's contents are right. Item 3 writes them with the calls that begin with put.
 //
 // FileAnswer, what every call on a column file answers, stands here too.
 use little::pair;
@@ -20,7 +20,7 @@ ghost use Rattle.contents.specs.First.{firstBad};
 // What a call on a file answers: that it is done, or why it is refused.
 pub enum FileAnswer {
     Done,
-    // the output for a block is not 1,024 long, or the numbers to be written are no whole blocks or more than 256 of them
+    // a block that is lent is not 1,024 long, or the numbers to be written are no whole blocks or more than 256 of them
     Block,
     // the file is cut short: in its first four bytes, in the entries or in the bodies
     Cut,
@@ -34,7 +34,7 @@ pub enum FileAnswer {
     Beyond,
     // a run index is out of range; the lowest block that has one
     Runs(usize),
-    // the output is shorter than the file that is to be written
+    // the output is shorter than what is to be written: the file, or one body of it
     Room,
 }
 

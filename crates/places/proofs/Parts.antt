@@ -1,13 +1,13 @@
 -- The laws of a list that is cut into parts, and of lists that stand one after another.
 -- Assumes nothing.
-use mathlib.Core.List.{List, [], _∷_, _++_, append-nil, append-assoc}
+use mathlib.Core.List.{List, [], _++_, append-nil, append-assoc}
 use mathlib.Core.Path.{_≡_, refl, sym, ap, ap₂, _∙_, subst}
 use Prim.Native.Nat.{ℕ, zero, suc, _+_, _-_, _*_, _^_, _≤_, _<_}
 use native.Mathlib.Decide.{decLe}
 use native.Mathlib.Nat.{suc-mul, not-suc-le-zero, zero-mul}
 use native.Mathlib.Omega.{arith}
-use lib.ListN.{length, getD, take, drop, length-append, length-take, length-drop, List·getD-append}
-use lib.Seq.{ext-getD, getD-take, getD-drop, getD-append-add}
+use lib.ListN.{length, getD, drop, length-append, length-take, length-drop}
+use lib.Seq.{getD-take, getD-drop}
 use Rattle.places.specs.Numbers.{Elements}
 use Rattle.places.specs.Parts.{cut, joined}
 use Rattle.places.proofs.Digits.{elements-of}

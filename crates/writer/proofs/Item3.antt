@@ -1,26 +1,48 @@
 -- Document 02, Item 3, of the call: each number exactly when the document gives it, a refused call leaves the output as it was, and a call that
 -- is done leaves the file at the front and the bytes behind it. The file is one that the reader accepts, and its rows are the numbers.
 -- Assumes nothing.
-use mathlib.Core.List.{List}
-use mathlib.Core.Logic.{_↔_, _⊎_, inl, inr}
-use mathlib.Core.Path.{_≡_, sym, ap, _∙_, subst}
-use Prim.Native.Nat.{ℕ, _+_, _*_, _/_, _%_, _≤_, _<_}
-use native.Mathlib.Decide.{decLe, decLt, ℕ-discrete}
+use mathlib.Core.List.{List, []}
+use mathlib.Core.Logic.{_↔_}
+use mathlib.Core.Path.{_≡_, refl, sym, ap, _∙_, subst}
+use Prim.Native.Nat.{ℕ, _+_, _*_, _%_, _≤_, _<_}
+use native.Mathlib.Decide.{decLe, ℕ-discrete}
 use native.Mathlib.Omega.{arith}
+use borrow.Author.Tests.{ne-eqb}
 use lib.ListN.{length, take, drop}
-use Rattle.places.specs.Numbers.{Elements}
-use Rattle.places.specs.Sizes.{t64}
-use Rattle.places.specs.Tab.{over}
+use Rattle.places.specs.Numbers.{minus, Elements}
+use Rattle.places.specs.Parts.{cut, joined}
+use Rattle.places.specs.Places.{place, lane, row, order}
+use Rattle.places.specs.Pick.{pick}
+use Rattle.places.specs.Sizes.{t64, lanes}
+use Rattle.places.specs.Tab.{tab, tabFrom, over}
 use Rattle.places.proofs.Overs.{over-front, over-rest}
+use Rattle.places.proofs.Parts.{length-cut, cut-elements}
+use Rattle.little.specs.Little.{bytesOf, allBytes}
+use Rattle.contents.specs.declared.Entry.{Entry}
 use Rattle.contents.specs.declared.FileAnswer.{FileAnswer}
 use Rattle.contents.specs.declared.FileAnswer.the-variants.{Done, Block, Room}
-use Rattle.contents.specs.Answers.{fileAnswer, numberOf, left}
-use Rattle.contents.proofs.Answers.{left-refused}
+use Rattle.contents.specs.Answers.{fileAnswer, numberOf, isDone, left}
+use Rattle.contents.specs.Bytes.{headBytes, entryBytes}
+use Rattle.contents.specs.Contents.{entryOf}
+use Rattle.contents.specs.First.{firstBad, firstFrom}
+use Rattle.contents.proofs.Answers.{left-refused, says-answer}
+use Rattle.bodies.specs.Bodies.{blockOf, wordsFrom}
+use Rattle.candidates.specs.Candidates.{plainAt, frameAt, stepsAt, shorter, chosen, bodyFor, baseOf}
+use Rattle.candidates.specs.Widths.{bits, widthOf, lowestOf}
+use Rattle.packing.specs.Packed.{packOf}
+use Rattle.deltas.specs.Deltas.{before, deltaOf, frameOf, forPackOf}
+use Rattle.runs.specs.Highest.{highestOf}
+use Rattle.candidates.specs.Restored.{candidate}
+use Rattle.candidates.proofs.Choice.{chosen-shortest}
+use Rattle.candidates.proofs.Least.{no-narrower}
 use Rattle.files.specs.Files.{rowsOf, fileTests}
+use Rattle.files.proofs.Rows.{noBlocks, oneOfSevens}
+use Rattle.writer.specs.declared.Written.the-variants.{Length, Refused}
 use Rattle.writer.specs.Plain.{Blocks, WriteReason, no-blocks, short-output, room-there}
-use Rattle.writer.specs.Writer.{blockCount, fileOf, writeTests, writeLeaves}
+use Rattle.writer.specs.Writer.{blockCount, blockAt, entriesFor, bodiesFor, fileOf, writeTests, writtenOf, fileLeaves, answerOf, lengthOf}
 use Rattle.writer.proofs.Calls.{not-whole, over-many, blocks-short, blocks-room}
-use Rattle.writer.proofs.ReadBack.{file-accepted, rows-read}
+use Rattle.writer.proofs.Laying.{file-short}
+use Rattle.writer.proofs.ReadBack.{entry-read, file-accepted, rows-read}
 
 -- Whole blocks by their remainder and their count.
 module _ (values : List ℕ) where
@@ -65,31 +87,89 @@ module _ (values output : List ℕ) where
   pub write-exactly : (a : FileAnswer) → (fileAnswer (writeTests values output) ≡ a) ↔ WriteReason values output a
   write-exactly a = ((λ e. subst (WriteReason values output) (sym (gives (reason .1)) ∙ e) (reason .1)), gives)
 
+  -- What the call gives back says that answer,
+  pub write-answers : answerOf (writtenOf values output) ≡ fileAnswer (writeTests values output)
+  unfolding writtenOf
+  write-answers = says-answer answerOf (Length (length (fileOf values))) Refused refl (λ a. refl) (fileAnswer (writeTests values output))
+
+  -- and a length of 0 where it is refused.
+  pub write-no-length : (numberOf (fileAnswer (writeTests values output)) ≡ 0 → ⊥) → lengthOf (writtenOf values output) ≡ 0
+  unfolding writtenOf
+  write-no-length bad =
+      ap (λ b. lengthOf (pick b (Length (length (fileOf values))) (Refused (fileAnswer (writeTests values output)))))
+      (ne-eqb (numberOf (fileAnswer (writeTests values output))) 0 bad)
+
   -- A refused call leaves the output as it was.
-  pub write-refused : (numberOf (fileAnswer (writeTests values output)) ≡ 0 → ⊥) → writeLeaves values output ≡ output
-  unfolding writeLeaves
+  pub write-refused : (numberOf (fileAnswer (writeTests values output)) ≡ 0 → ⊥) → fileLeaves values output ≡ output
+  unfolding fileLeaves
   write-refused bad = left-refused (fileAnswer (writeTests values output)) (over 0 (fileOf values) output) output bad
 
   module _ (done : fileAnswer (writeTests values output) ≡ Done) where
-    over-file : writeLeaves values output ≡ over 0 (fileOf values) output
-    unfolding writeLeaves
+    over-file : fileLeaves values output ≡ over 0 (fileOf values) output
+    unfolding fileLeaves
     over-file = ap (λ a. left a (over 0 (fileOf values) output) output) done
 
-    -- A call that is done leaves the file at the front, which the numbers alone decide,
-    pub write-front : take (length (fileOf values)) (writeLeaves values output) ≡ fileOf values
+    -- A call that is done gives the file's length,
+    pub write-length : lengthOf (writtenOf values output) ≡ length (fileOf values)
+    unfolding writtenOf
+    write-length = ap (λ a. lengthOf (pick (isDone a) (Length (length (fileOf values))) (Refused a))) done
+
+    -- leaves the file at the front,
+    pub write-front : take (length (fileOf values)) (fileLeaves values output) ≡ fileOf values
     write-front = ap (take (length (fileOf values))) over-file ∙ over-front (fileOf values) output
 
     -- and behind it the bytes that were there.
-    pub write-behind : drop (length (fileOf values)) (writeLeaves values output) ≡ drop (length (fileOf values)) output
+    pub write-behind : drop (length (fileOf values)) (fileLeaves values output) ≡ drop (length (fileOf values)) output
     write-behind = ap (drop (length (fileOf values))) over-file ∙ over-rest (fileOf values) output
 
-    -- The reader accepts what was written, and its rows are the numbers.
+    -- The reader accepts it, and its rows are the numbers.
     pub write-reads : Elements t64 values
-        → (fileAnswer (fileTests (take (length (fileOf values)) (writeLeaves values output))) ≡ Done)
-        × (rowsOf (take (length (fileOf values)) (writeLeaves values output)) ≡ values)
+        → (fileAnswer (fileTests (take (length (fileOf values)) (fileLeaves values output))) ≡ Done)
+        × (rowsOf (take (length (fileOf values)) (fileLeaves values output)) ≡ values)
     write-reads fits =
         let b = right (write-exactly Done .0 done) in
         (ap (λ l. fileAnswer (fileTests l)) write-front ∙ file-accepted values (b .n) (b .whole) (b .few) fits, ap rowsOf write-front ∙ rows-read values (b .n) (b .whole) (b .few) fits)
       where
         right : WriteReason values output Done → Blocks values
         right (room-there b room) = b
+
+-- The numbers alone decide the bytes: two calls on the same numbers that are done leave the same file.
+pub write-same : (values output output′ : List ℕ) → fileAnswer (writeTests values output) ≡ Done → fileAnswer (writeTests values output′) ≡ Done
+    → take (length (fileOf values)) (fileLeaves values output) ≡ take (length (fileOf values)) (fileLeaves values output′)
+write-same values output output′ done done′ = write-front values output done ∙ sym (write-front values output′ done′)
+
+-- A file has at most 4 + 8208·N bytes.
+pub write-short : (values : List ℕ) → length (fileOf values) ≤ 4 + 8208 * blockCount values
+write-short values = file-short values
+
+-- Of each block of a file, for 1,024·n numbers:
+module _ (values : List ℕ) (b : Blocks values) (fits : Elements t64 values) (i : ℕ) (h : i < b .n) where
+  entry-is : entryOf (fileOf values) i ≡ chosen (blockAt values i) .entry
+  entry-is = entry-read values (b .n) (b .whole) (b .few) fits i h
+
+  long : length (blockAt values i) ≡ 1024
+  long = length-cut 1024 values i (omega (arith, b .whole))
+
+  -- no entry and body of its kind, with its reference or base, that give the block have a smaller width,
+  pub block-least : (e : Entry) (body : List ℕ) → e .kind ≡ entryOf (fileOf values) i .kind → e .reference ≡ entryOf (fileOf values) i .reference
+      → (e .kind ≡ 2 → wordsFrom body 0 (lanes t64) ≡ baseOf (blockAt values i)) → blockOf e body ≡ blockAt values i
+      → entryOf (fileOf values) i .width ≤ e .width
+  block-least e body kind reference base same =
+      subst (λ x. x .width ≤ e .width) (sym entry-is)
+      (no-narrower (blockAt values i) long (cut-elements t64 1024 values i fits) e body
+      (kind ∙ ap (λ x. x .kind) entry-is) (reference ∙ ap (λ x. x .reference) entry-is) base same)
+
+  -- no candidate has a shorter body, and none of an equally long one has a lower kind.
+  pub block-shortest : (kind : ℕ) → kind ≤ 2
+      → (entryOf (fileOf values) i .length ≤ candidate kind (blockAt values i) .entry .length)
+      × (entryOf (fileOf values) i .length ≡ candidate kind (blockAt values i) .entry .length → entryOf (fileOf values) i .kind ≤ kind)
+  block-shortest kind k = rw entry-is (chosen-shortest (blockAt values i) kind k)
+
+-- The two worked files of Item 1 are what the writer gives for no numbers and for 1,024 sevens.
+pub writes-none : fileOf [] ≡ noBlocks
+unfolding fileOf entriesFor bodiesFor headBytes bytesOf joined
+writes-none = refl
+
+pub writes-sevens : fileOf (tab 1024 (λ _. 7)) ≡ oneOfSevens
+unfolding fileOf entriesFor bodiesFor headBytes entryBytes bytesOf allBytes joined cut tab tabFrom chosen bodyFor shorter plainAt frameAt stepsAt baseOf widthOf bits lowestOf highestOf firstBad firstFrom packOf forPackOf frameOf deltaOf before minus place lane row order
+writes-sevens = refl

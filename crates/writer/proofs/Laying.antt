@@ -1,11 +1,10 @@
 -- How the file grows block by block: its length, and what one more entry and one more body make of the output.
 -- Assumes nothing.
-use mathlib.Core.List.{List, [], _∷_, _++_, append-nil, append-assoc}
+use mathlib.Core.List.{List, [], _++_, append-nil, append-assoc}
 use mathlib.Core.Path.{_≡_, refl, sym, ap, ap₂, _∙_}
 use Prim.Native.Nat.{ℕ, zero, suc, _+_, _-_, _*_, _≤_, _<_}
-use native.Mathlib.Nat.{zero-add, not-suc-le-zero}
+use native.Mathlib.Nat.{zero-add}
 use native.Mathlib.Decide.{decLe}
-use native.Mathlib.Numerals.{add-one}
 use native.Mathlib.Omega.{arith}
 use lib.ListN.{length, take, drop, length-append, length-drop, drop-of-length-le}
 use lib.Seq.{take-all}
@@ -17,23 +16,23 @@ use Rattle.places.proofs.Parts.{length-joined, length-cut}
 use Rattle.contents.specs.Bytes.{headBytes, entryBytes}
 use Rattle.contents.specs.Contents.{contentsSize}
 use Rattle.contents.proofs.Bytes.{length-head, length-entry}
-use Rattle.candidates.specs.declared.Laid.the-variants.{Block}
+use Rattle.candidates.specs.declared.Laid.the-variants.{As}
 use Rattle.candidates.specs.Calls.{entryFor, laidOf, layLeaves}
 use Rattle.candidates.specs.Candidates.{chosen, bodyFor}
 use Rattle.candidates.proofs.Calls.{entry-there, laid-there}
 use Rattle.candidates.proofs.Choice.{body-sized, chosen-short}
-use Rattle.writer.specs.Writer.{blockCount, blockAt, contentsFor, bodiesFor, fileOf}
+use Rattle.writer.specs.Writer.{blockCount, blockAt, entriesFor, bodiesFor, fileOf}
 
 module _ (values : List ℕ) where
   -- The bytes of the first i entries,
-  pub length-contents : (i : ℕ) → length (contentsFor values i) ≡ i * 16
-  unfolding contentsFor
-  length-contents i = length-joined 16 i _ (λ b _. length-entry (chosen (blockAt values b) .entry))
+  pub length-entries : (i : ℕ) → length (entriesFor values i) ≡ i * 16
+  unfolding entriesFor
+  length-entries i = length-joined 16 i _ (λ b _. length-entry (chosen (blockAt values b) .entry))
 
   -- one entry more,
-  pub contents-next : (i : ℕ) → contentsFor values (suc i) ≡ contentsFor values i ++ entryBytes (chosen (blockAt values i) .entry)
-  unfolding contentsFor joined
-  contents-next i = refl
+  pub entries-next : (i : ℕ) → entriesFor values (suc i) ≡ entriesFor values i ++ entryBytes (chosen (blockAt values i) .entry)
+  unfolding entriesFor joined
+  entries-next i = refl
 
   -- one body more,
   pub bodies-next : (i : ℕ) → bodiesFor values (suc i) ≡ bodiesFor values i ++ bodyFor (blockAt values i)
@@ -44,17 +43,18 @@ module _ (values : List ℕ) where
   unfolding bodiesFor joined
   bodies-none = refl
 
-  pub contents-none : contentsFor values 0 ≡ []
-  unfolding contentsFor joined
-  contents-none = refl
+  pub entries-none : entriesFor values 0 ≡ []
+  unfolding entriesFor joined
+  entries-none = refl
 
-  -- and its bytes, of which there are at most 8,192.
+  -- and its bytes.
   pub bodies-longer : (i : ℕ) → length (bodiesFor values (suc i)) ≡ length (bodiesFor values i) + chosen (blockAt values i) .entry .length
   bodies-longer i =
       ap length (bodies-next i)
       ∙ length-append (bodiesFor values i) (bodyFor (blockAt values i))
       ∙ ap (λ k. length (bodiesFor values i) + k) (body-sized (blockAt values i))
 
+  -- A body has at most 8,192.
   pub bodies-short : (i : ℕ) → length (bodiesFor values i) ≤ 8192 * i
   bodies-short zero = omega (arith, ap length bodies-none)
   bodies-short (suc i) =
@@ -72,10 +72,10 @@ module _ (values : List ℕ) where
 
   -- Edition, count and the entries of i blocks.
   abbrev pub fronts : (n i : ℕ) → List ℕ
-  fronts n i = headBytes n ++ contentsFor values i
+  fronts n i = headBytes n ++ entriesFor values i
 
   pub length-fronts : (n i : ℕ) → length (fronts n i) ≡ contentsSize i
-  length-fronts n i = length-append (headBytes n) (contentsFor values i) ∙ ap₂ _+_ (length-head n) (length-contents i)
+  length-fronts n i = length-append (headBytes n) (entriesFor values i) ∙ ap₂ _+_ (length-head n) (length-entries i)
 
   -- The file has this length.
   pub length-file : length (fileOf values) ≡ contentsSize (blockCount values) + length (bodiesFor values (blockCount values))
@@ -90,13 +90,13 @@ module _ (values : List ℕ) where
 
   -- After i of n blocks the output holds this.
   abbrev pub laidTo : (n i : ℕ) (old : List ℕ) → List ℕ
-  laidTo n i old = over (contentsSize n) (bodiesFor values i) (over 4 (contentsFor values i) old)
+  laidTo n i old = over (contentsSize n) (bodiesFor values i) (over 4 (entriesFor values i) old)
 
   -- Before the first block it holds what it held.
   pub laid-none : (n : ℕ) (old : List ℕ) → old ≡ laidTo n 0 old
   laid-none n old =
       sym
-      (ap₂ (λ x y. over (contentsSize n) x (over 4 y old)) bodies-none contents-none
+      (ap₂ (λ x y. over (contentsSize n) x (over 4 y old)) bodies-none entries-none
       ∙ over-nothing (contentsSize n) (over 4 [] old)
       ∙ over-nothing 4 old)
 
@@ -108,16 +108,16 @@ module _ (values : List ℕ) where
     laid-next i at h e =
         let entry : List ℕ = entryBytes (chosen (blockAt values i) .entry) in
         let body : List ℕ = bodyFor (blockAt values i) in
-        let c : List ℕ = contentsFor values i in
+        let c : List ℕ = entriesFor values i in
         let el : length entry ≡ 16 = length-entry (chosen (blockAt values i) .entry) in
-        let cl : length c ≡ i * 16 = length-contents i in
+        let cl : length c ≡ i * 16 = length-entries i in
         let f : List ℕ = over 4 c old in
         let fl : length f ≡ length old = length-over 4 c old (omega arith) in
         let within : length (bodiesFor values (suc i)) ≤ length (bodiesFor values n) = bodies-within (suc i) n h in
         let more : length (bodiesFor values (suc i)) ≡ length (bodiesFor values i) + length body =
         ap length (bodies-next i) ∙ length-append (bodiesFor values i) body in
-        let entries : over (contentsSize i) entry f ≡ over 4 (contentsFor values (suc i)) old =
-        ap (λ k. over (4 + k) entry f) (sym cl) ∙ over-append 4 c entry old (omega arith) ∙ ap (λ x. over 4 x old) (sym (contents-next i)) in
+        let entries : over (contentsSize i) entry f ≡ over 4 (entriesFor values (suc i)) old =
+        ap (λ k. over (4 + k) entry f) (sym cl) ∙ over-append 4 c entry old (omega arith) ∙ ap (λ x. over 4 x old) (sym (entries-next i)) in
         ap (λ k. over (contentsSize i) entry (over k body (laidTo n i old))) e
         ∙ ap (over (contentsSize i) entry) (over-append (contentsSize n) (bodiesFor values i) body f (omega arith) ∙ ap (λ x. over (contentsSize n) x f) (sym (bodies-next i)))
         ∙ over-apart (contentsSize i) (contentsSize n) entry (bodiesFor values (suc i)) f (omega arith) (omega arith)
@@ -127,29 +127,29 @@ module _ (values : List ℕ) where
     pub laid-length : (i : ℕ) → i ≤ n → length (laidTo n i old) ≡ length old
     laid-length i h =
         let within : length (bodiesFor values i) ≤ length (bodiesFor values n) = bodies-within i n h in
-        let inner : length (over 4 (contentsFor values i) old) ≡ length old = length-over 4 (contentsFor values i) old (omega (arith, length-contents i)) in
-        length-over (contentsSize n) (bodiesFor values i) (over 4 (contentsFor values i) old) (omega arith) ∙ inner
+        let inner : length (over 4 (entriesFor values i) old) ≡ length old = length-over 4 (entriesFor values i) old (omega (arith, length-entries i)) in
+        length-over (contentsSize n) (bodiesFor values i) (over 4 (entriesFor values i) old) (omega arith) ∙ inner
 
     -- After all blocks it holds the entries and the bodies.
-    pub laid-all : laidTo n n old ≡ over 4 (contentsFor values n ++ bodiesFor values n) old
+    pub laid-all : laidTo n n old ≡ over 4 (entriesFor values n ++ bodiesFor values n) old
     laid-all =
-        ap (λ k. over (4 + k) (bodiesFor values n) (over 4 (contentsFor values n) old)) (sym (length-contents n))
-        ∙ over-append 4 (contentsFor values n) (bodiesFor values n) old (omega (arith, length-contents n))
+        ap (λ k. over (4 + k) (bodiesFor values n) (over 4 (entriesFor values n) old)) (sym (length-entries n))
+        ∙ over-append 4 (entriesFor values n) (bodiesFor values n) old (omega (arith, length-entries n))
 
   -- Behind the first four bytes they are the file.
   pub file-laid : (old : List ℕ) → length (fileOf values) ≤ length old
-      → over 4 (contentsFor values (blockCount values) ++ bodiesFor values (blockCount values)) (over 0 (headBytes (blockCount values)) old)
+      → over 4 (entriesFor values (blockCount values) ++ bodiesFor values (blockCount values)) (over 0 (headBytes (blockCount values)) old)
       ≡ over 0 (fileOf values) old
   unfolding fileOf
   file-laid old room =
       let n : ℕ = blockCount values in
-      let x : List ℕ = contentsFor values n ++ bodiesFor values n in
+      let x : List ℕ = entriesFor values n ++ bodiesFor values n in
       ap (λ k. over k x (over 0 (headBytes n) old)) (sym (zero-add (length (headBytes n)) ∙ length-head n))
       ∙ over-append 0 (headBytes n) x old
-      (omega (arith, length-head n, length-file, length-append (contentsFor values n) (bodiesFor values n), length-contents n))
-      ∙ ap (λ y. over 0 y old) (sym (append-assoc (headBytes n) (contentsFor values n) (bodiesFor values n)))
+      (omega (arith, length-head n, length-file, length-append (entriesFor values n) (bodiesFor values n), length-entries n))
+      ∙ ap (λ y. over 0 y old) (sym (append-assoc (headBytes n) (entriesFor values n) (bodiesFor values n)))
 
-  -- A part of 1,024 numbers is a block, and these are its entry and its length.
+  -- A part of 1,024 numbers is a block,
   pub block-lent : (i : ℕ) → take (i * 1024 + 1024 - i * 1024) (drop (i * 1024) values) ≡ blockAt values i
   unfolding cut
   block-lent i = ap (λ k. take k (drop (i * 1024) values)) part
@@ -157,9 +157,9 @@ module _ (values : List ℕ) where
       part : i * 1024 + 1024 - i * 1024 ≡ 1024
       part = omega arith
 
-  -- Block i is laid down through the tail of the output.
+  -- Block i is laid down through the tail of the output,
   pub one-laid : (i at : ℕ) (old : List ℕ) → i < blockCount values → at + chosen (blockAt values i) .entry .length ≤ length old
-      → (laidOf (blockAt values i) (midOf at (length old - at) old) ≡ Block (chosen (blockAt values i) .entry))
+      → (laidOf (blockAt values i) (midOf at (length old - at) old) ≡ As (chosen (blockAt values i) .entry))
       × (putMid at (length old - at) old (layLeaves (blockAt values i) (midOf at (length old - at) old)) ≡ over at (bodyFor (blockAt values i)) old)
   one-laid i at old h room =
       let block : List ℕ = blockAt values i in
@@ -173,5 +173,6 @@ module _ (values : List ℕ) where
             ∙ over-tail at (bodyFor block) old,
       )
 
+  -- and this is its entry.
   pub entry-lent : (i : ℕ) → i < blockCount values → entryFor (take (i * 1024 + 1024 - i * 1024) (drop (i * 1024) values)) ≡ chosen (blockAt values i) .entry
   entry-lent i h = ap entryFor (block-lent i) ∙ entry-there (blockAt values i) (length-cut 1024 values i (omega arith))

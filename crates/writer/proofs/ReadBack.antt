@@ -1,19 +1,17 @@
 -- Document 02, Item 3, of a whole file: the reader accepts what the writer lays down, and its rows are the numbers.
 -- Assumes nothing.
 use mathlib.Core.Bool.{true}
-use mathlib.Core.List.{List, [], _∷_, _++_, append-nil, append-assoc}
-use mathlib.Core.Path.{_≡_, refl, sym, ap, ap₂, _∙_, subst}
-use Prim.Native.Nat.{ℕ, zero, suc, _+_, _-_, _*_, _/_, _%_, _^_, _≤_, _<_}
+use mathlib.Core.List.{List, _++_, append-assoc}
+use mathlib.Core.Path.{_≡_, sym, ap, ap₂, _∙_}
+use Prim.Native.Nat.{ℕ, zero, suc, _+_, _-_, _*_, _/_, _%_, _≤_, _<_}
 use native.Mathlib.Omega.{arith}
 use lib.ListN.{length, getD, take, drop, length-append}
 use lib.Seq.{take-at, drop-at}
 use Rattle.places.specs.Numbers.{Elements}
-use Rattle.places.specs.Parts.{cut, joined}
 use Rattle.places.specs.Sizes.{t64}
 use Rattle.places.specs.Tab.{tab}
 use Rattle.places.proofs.Parts.{length-cut, getD-cut, cut-elements, joined-at}
 use Rattle.places.proofs.Tabs.{is-tab}
-use Rattle.contents.specs.declared.Entry.{Entry}
 use Rattle.contents.specs.declared.FileAnswer.the-variants.{Done}
 use Rattle.contents.specs.Answers.{fileAnswer}
 use Rattle.contents.specs.Bytes.{headBytes, entryBytes}
@@ -26,7 +24,7 @@ use Rattle.candidates.proofs.Choice.{body-sized, chosen-laid, chosen-fits, chos
 use Rattle.candidates.proofs.Least.{chosen-restores}
 use Rattle.files.specs.Files.{bodyOf, blockIn, rowAt, rowsOf, fileTests}
 use Rattle.files.proofs.Files.{no-bad-runs}
-use Rattle.writer.specs.Writer.{blockCount, blockAt, contentsFor, bodiesFor, fileOf}
+use Rattle.writer.specs.Writer.{blockCount, blockAt, entriesFor, bodiesFor, fileOf}
 use Rattle.writer.proofs.Laying.{fronts, length-fronts, bodies-none, bodies-longer, length-file}
 
 module _ (values : List ℕ) (n : ℕ) (whole : length values ≡ n * 1024) (few : n ≤ 256) (fits : Elements t64 values) where
@@ -44,27 +42,27 @@ module _ (values : List ℕ) (n : ℕ) (whole : length values ≡ n * 1024) (few
 
   file-is : file ≡ fronts values n n ++ bodiesFor values n
   unfolding fileOf
-  file-is = ap (λ k. headBytes k ++ contentsFor values k ++ bodiesFor values k) blocks
+  file-is = ap (λ k. headBytes k ++ entriesFor values k ++ bodiesFor values k) blocks
 
-  head-first : file ≡ headBytes n ++ (contentsFor values n ++ bodiesFor values n)
-  head-first = file-is ∙ append-assoc (headBytes n) (contentsFor values n) (bodiesFor values n)
+  head-first : file ≡ headBytes n ++ (entriesFor values n ++ bodiesFor values n)
+  head-first = file-is ∙ append-assoc (headBytes n) (entriesFor values n) (bodiesFor values n)
 
   length-is : length file ≡ contentsSize n + length (bodiesFor values n)
   length-is = length-file values ∙ ap (λ k. contentsSize k + length (bodiesFor values k)) blocks
 
   edition-is : edition file ≡ 1
-  edition-is = ap edition head-first ∙ head-edition n (contentsFor values n ++ bodiesFor values n)
+  edition-is = ap edition head-first ∙ head-edition n (entriesFor values n ++ bodiesFor values n)
 
   count-is : count file ≡ n
-  count-is = ap count head-first ∙ head-count n (contentsFor values n ++ bodiesFor values n) (omega arith)
+  count-is = ap count head-first ∙ head-count n (entriesFor values n ++ bodiesFor values n) (omega arith)
 
   -- Entry i stands behind the entries in front of it,
   entry-split : (i : ℕ) → i < n → (rest : List ℕ) × (file ≡ fronts values n i ++ (entryBytes (chosen (blockAt values i) .entry) ++ rest))
-  unfolding contentsFor
+  unfolding entriesFor
   entry-split i h =
       let r = joined-at n (λ b. entryBytes (chosen (blockAt values b) .entry)) i h in
       let e : List ℕ = entryBytes (chosen (blockAt values i) .entry) in
-      let c : List ℕ = contentsFor values i in (
+      let c : List ℕ = entriesFor values i in (
         r .0 ++ bodiesFor values n,
         head-first
             ∙ ap (λ x. headBytes n ++ (x ++ bodiesFor values n)) (r .1)

@@ -2,7 +2,6 @@
 -- that a call gets an answer exactly when it has the reason for it here is a theorem.
 -- Assumes nothing.
 use mathlib.Core.List.{List}
-use mathlib.Core.Logic.{_⊎_, _≢_}
 use mathlib.Core.Path.{_≡_}
 use Prim.Native.Nat.{ℕ, _*_, _≤_, _<_}
 use lib.ListN.{length}

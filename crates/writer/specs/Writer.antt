@@ -22,17 +22,17 @@ blockCount values = length values / 1024
 abbrev pub blockAt : (values : List ℕ) (b : ℕ) → List ℕ
 blockAt values b = cut 1024 values b
 
--- The contents have the entry of each block's chosen candidate,
-unfoldable pub contentsFor : (values : List ℕ) (n : ℕ) → List ℕ
-contentsFor values n = joined n (λ b. entryBytes (chosen (blockAt values b) .entry))
+-- The first n entries are those of the chosen candidate of each block,
+unfoldable pub entriesFor : (values : List ℕ) (n : ℕ) → List ℕ
+entriesFor values n = joined n (λ b. entryBytes (chosen (blockAt values b) .entry))
 
--- and behind them stand the bodies.
+-- and these are the first n bodies.
 unfoldable pub bodiesFor : (values : List ℕ) (n : ℕ) → List ℕ
 bodiesFor values n = joined n (λ b. bodyFor (blockAt values b))
 
 -- This is the file of the numbers, from its first byte to its last: edition 1 and the block count, the entries, the bodies.
 unfoldable pub fileOf : (values : List ℕ) → List ℕ
-fileOf values = headBytes (blockCount values) ++ contentsFor values (blockCount values) ++ bodiesFor values (blockCount values)
+fileOf values = headBytes (blockCount values) ++ entriesFor values (blockCount values) ++ bodiesFor values (blockCount values)
 
 -- Writing takes whole blocks, at most 256 of them, and an output with room for the file itself.
 abbrev pub writeTests : (values output : List ℕ) → List FileTest
@@ -44,8 +44,8 @@ writtenOf values output =
     pick (isDone (fileAnswer (writeTests values output))) (Length (length (fileOf values))) (Refused (fileAnswer (writeTests values output)))
 
 -- and leaves the file at the front of the output; the bytes behind it stay.
-unfoldable pub writeLeaves : (values output : List ℕ) → List ℕ
-writeLeaves values output = left (fileAnswer (writeTests values output)) (over 0 (fileOf values) output) output
+unfoldable pub fileLeaves : (values output : List ℕ) → List ℕ
+fileLeaves values output = left (fileAnswer (writeTests values output)) (over 0 (fileOf values) output) output
 
 -- A length stands for an answer that is done, and a refusal for itself.
 abbrev pub answerOf : Written → FileAnswer

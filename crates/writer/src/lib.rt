@@ -1,5 +1,6 @@
 // The column file is written (document 02, Item 3): 1,024·N numbers become an edition 1 file. Each block is laid down as the crate
-// candidates chooses. The file's length is known before the first byte is written, so a refused call writes nothing.
+// candidates chooses. The file's length is known before the first byte is written, so a refused call writes nothing. For that
+// each block is measured twice.
 use candidates::entry_for;
 use candidates::lay_block;
 use contents::FileAnswer;
@@ -13,7 +14,7 @@ ghost use Rattle.places.specs.Tab.{over};
 ghost use Rattle.candidates.specs.Candidates.{chosen, bodyFor};
 ghost use Rattle.contents.specs.Bytes.{entryBytes};
 ghost use Rattle.contents.specs.Contents.{contentsSize};
-ghost use Rattle.writer.specs.Writer.{answerOf, lengthOf, writtenOf, writeLeaves, fileOf, blockCount, blockAt, contentsFor, bodiesFor};
+ghost use Rattle.writer.specs.Writer.{answerOf, lengthOf, writtenOf, fileLeaves, fileOf, blockCount, blockAt, entriesFor, bodiesFor};
 
 // The length of the file that was written, or the refusal.
 pub enum Written {
@@ -46,7 +47,7 @@ impl Written {
 // Writes the file of the numbers at the front of the output.
 pub fn write(values: &[u64], output: &mut [u8]) -> Written
     ensures { λ r. ⌜ r ≡ writtenOf (now (values .entry)) (now (output .entry)) ⌝ }
-    ensures { λ _. ⌜ now (output .exit) ≡ writeLeaves (now (values .entry)) (now (output .entry)) ⌝ }
+    ensures { λ _. ⌜ now (output .exit) ≡ fileLeaves (now (values .entry)) (now (output .entry)) ⌝ }
 {
     if values.len() % 1024 != 0 {
         return Written::Refused(FileAnswer::Block);
@@ -79,7 +80,7 @@ fn file_size(values: &[u64]) -> usize
     size
 }
 
-// The file in an output that has room for it.
+// Writes the file to an output that has room for it.
 fn lay_file(values: &[u64], output: &mut [u8])
     requires { ⌜ length (now values) ≤ 262144 ⌝ }
     requires { ⌜ length (fileOf (now values)) ≤ length (now output) ⌝ }
@@ -90,11 +91,11 @@ fn lay_file(values: &[u64], output: &mut [u8])
     lay_blocks(values, output);
 }
 
-// The entries and the bodies of all blocks, behind the first four bytes.
+// Writes the entries and the bodies of all blocks, behind the first four bytes.
 fn lay_blocks(values: &[u64], output: &mut [u8])
     requires { ⌜ length (now values) ≤ 262144 ⌝ }
     requires { ⌜ length (fileOf (now values)) ≤ length (now output) ⌝ }
-    ensures { λ _. ⌜ now (output .exit) ≡ over 4 (contentsFor (now (values .entry)) (blockCount (now (values .entry))) ++ bodiesFor (now (values .entry)) (blockCount (now (values .entry)))) (now (output .entry)) ⌝ }
+    ensures { λ _. ⌜ now (output .exit) ≡ over 4 (entriesFor (now (values .entry)) (blockCount (now (values .entry))) ++ bodiesFor (now (values .entry)) (blockCount (now (values .entry)))) (now (output .entry)) ⌝ }
 {
     let n = values.len() / 1024;
     let mut at = 4 + n * 16;
@@ -105,7 +106,8 @@ fn lay_blocks(values: &[u64], output: &mut [u8])
     }
 }
 
-// Block i: its body from place `at` on, and its entry. Gives the length of the body.
+// Writes the body of block i from place `at` on, and its entry, and gives the length of the body. There is room, so the body is not
+// refused.
 fn lay_one(values: &[u64], i: usize, at: usize, output: &mut [u8]) -> usize
     requires { ⌜ i < blockCount (now values) ⌝ }
     requires { ⌜ (contentsSize (i + 1) ≤ at) × (at + chosen (blockAt (now values) i) .entry .length ≤ length (now output)) ⌝ }

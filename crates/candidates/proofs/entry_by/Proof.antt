@@ -1,6 +1,6 @@
 -- `candidates::entry_by` meets its contract: the three entries are compared two at a time.
 -- Assumes nothing.
-use mathlib.Core.Path.{ap, ap₂, _∙_}
+use mathlib.Core.Path.{ap₂, _∙_}
 use borrow.Author.Needs.{needs}
 use Rattle.candidates.specs.InnerMeasures.{shorterEntry, entryBy}
 use Rattle.candidates.proofs.entry_by.Statement.{statement}

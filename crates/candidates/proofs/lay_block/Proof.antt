@@ -8,7 +8,7 @@ use lib.ListN.{length}
 use Rattle.places.specs.Sizes.{t64}
 use Rattle.deltas.proofs.Lanes.{length-delta}
 use Rattle.little.specs.Little.{writeLeaves}
-use Rattle.candidates.specs.declared.Laid.the-variants.{Block}
+use Rattle.candidates.specs.declared.Laid.the-variants.{As}
 use Rattle.candidates.specs.Candidates.{baseOf}
 use Rattle.candidates.specs.InnerMeasures.{entryBy, wordsBy}
 use Rattle.candidates.proofs.Calls.{measured-most, bad-values, no-room, laid}
@@ -69,7 +69,7 @@ returns-3 c =
     let entry = e .entry-by .ensures ∙ ap entryBy (m .measure .ensures .0) ∙ entry-chosen values in
     let words = ap₂ (λ x d. wordsBy x values d) (m .measure .ensures .0) (m .measure .ensures .1) ∙ words-chosen values in
     let given = laid values (now (args .output)) (omega arith) (omega (arith, ap (λ e. e .length) entry)) in (
-      ap Block entry ∙ given .0,
+      ap As entry ∙ given .0,
       out .lay-shortest .ensures ∙ ap (λ x. writeLeaves 8 x (now (args .output))) words ∙ given .1,
     )
 

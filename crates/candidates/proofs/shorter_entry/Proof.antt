@@ -1,6 +1,5 @@
 -- `candidates::shorter_entry` meets its contract: by the test.
 -- Assumes nothing.
-use mathlib.Core.Path.{sym}
 use native.Mathlib.Omega.{arith}
 use Rattle.candidates.proofs.Choice.{entry-first, entry-second}
 use Rattle.candidates.proofs.shorter_entry.Statement.{statement}

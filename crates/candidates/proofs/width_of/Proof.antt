@@ -2,7 +2,7 @@
 -- Assumes nothing.
 use native.Mathlib.Omega.{arith}
 use lib.Count.{leading-le}
-use Rattle.candidates.proofs.Widths.{bits-leading, bits-most}
+use Rattle.candidates.proofs.Widths.{bits-leading}
 use borrow.Author.Needs.{needs}
 use Rattle.candidates.proofs.width_of.Statement.{statement}
 use Rattle.candidates.proofs.width_of.Tie as tie

@@ -7,7 +7,7 @@ use denote.Ref.{now}
 use borrow.Author.Needs.{needs}
 use Rattle.places.specs.Tab.{over}
 use Rattle.contents.proofs.Bytes.{head-fits}
-use Rattle.writer.specs.Writer.{blockCount, contentsFor, bodiesFor}
+use Rattle.writer.specs.Writer.{blockCount, entriesFor, bodiesFor}
 use Rattle.writer.proofs.Laying.{length-file, file-laid}
 use Rattle.writer.proofs.lay_file.Statement.{statement}
 use Rattle.writer.proofs.lay_file.Tie as tie
@@ -32,7 +32,7 @@ returns c =
     let values = now (args .values) in
     let old = now (args .output) in
     out .lay-blocks .ensures
-    ∙ ap (over 4 (contentsFor values (blockCount values) ++ bodiesFor values (blockCount values)))
+    ∙ ap (over 4 (entriesFor values (blockCount values) ++ bodiesFor values (blockCount values)))
     (head .put-head .ensures ∙ head-fits (blockCount values) old (omega (arith, length-file values)))
     ∙ file-laid values old (omega arith)
 

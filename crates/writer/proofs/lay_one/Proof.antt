@@ -11,7 +11,7 @@ use Rattle.places.proofs.Overs.{length-over}
 use Rattle.contents.specs.Bytes.{entryLeaves}
 use Rattle.contents.specs.Contents.{contentsSize}
 use Rattle.contents.proofs.Bytes.{entry-fits}
-use Rattle.candidates.specs.Calls.{laidOf, layLeaves, entryOf}
+use Rattle.candidates.specs.Calls.{laidOf, layLeaves, entryLaid}
 use Rattle.candidates.specs.Candidates.{chosen, bodyFor}
 use Rattle.candidates.proofs.Choice.{body-sized}
 use Rattle.writer.specs.Writer.{blockAt}
@@ -79,7 +79,7 @@ returns c =
     let block = blockAt values (args .i) in
     let one = one-laid values (args .i) (args .at) old (start .pre .0) (start .pre .1 .1) in
     let given = entry .entry .ensures
-    ∙ ap entryOf (body .lay-block .ensures .0 ∙ ap (λ l. laidOf l (midOf (args .at) (length old - args .at) old)) (block-lent values (args .i)) ∙ one .0) in
+    ∙ ap entryLaid (body .lay-block .ensures .0 ∙ ap (λ l. laidOf l (midOf (args .at) (length old - args .at) old)) (block-lent values (args .i)) ∙ one .0) in
     let laid = ap (putMid (args .at) (length old - args .at) old)
     (body .lay-block .ensures .1 ∙ ap (λ l. layLeaves l (midOf (args .at) (length old - args .at) old)) (block-lent values (args .i)))
     ∙ one .1 in (

@@ -5,19 +5,19 @@ use native.Mathlib.Omega.{arith}
 use denote.Ref.{now}
 use borrow.Author.Needs.{needs}
 use Rattle.writer.specs.declared.Written.the-variants.{Length}
-use Rattle.writer.proofs.Calls.{no-blocks, too-many, no-room, written}
+use Rattle.writer.proofs.Calls.{refused-blocks, refused-many, refused-room, written}
 use Rattle.writer.proofs.write.Statement.{statement}
 use Rattle.writer.proofs.write.Tie as tie
 
 returns : tie.Need-returns
 returns c =
     let args = c .before .before .before .args in
-    no-blocks (now (args .values)) (now (args .output)) (c .if1 .taken)
+    refused-blocks (now (args .values)) (now (args .output)) (c .if1 .taken)
 
 returns-2 : tie.Need-returns-2
 returns-2 c =
     let args = c .before .before .before .before .args in
-    too-many (now (args .values)) (now (args .output)) (c .before .if1 .left) (c .if2 .taken)
+    refused-many (now (args .values)) (now (args .output)) (c .before .if1 .left) (c .if2 .taken)
 
 file-size-requires : tie.Need-file-size-requires
 file-size-requires c κs = search needs
@@ -27,7 +27,7 @@ returns-3 c =
     let size = c .before in
     let few = size .before in
     let args = few .before .before .before .before .args in
-    no-room (now (args .values)) (now (args .output)) (few .before .if1 .left) (few .if2 .left) (omega (arith, size .file-size .ensures))
+    refused-room (now (args .values)) (now (args .output)) (few .before .if1 .left) (few .if2 .left) (omega (arith, size .file-size .ensures))
 
 lay-file-requires : tie.Need-lay-file-requires
 lay-file-requires c κs = search needs
