@@ -1,5 +1,6 @@
 // The calls on a column file, on a file of zeros but for its contents. Call 16 checks the contents of a file of 256 empty
-// frames, or of none where start is 0; call 17 takes out the block of a file of one block, of the kind that start says.
+// frames, or of none where start is 0; call 17 takes out the block of a file of one block, of the kind that start says. A block of
+// kind 3 has no width, and the request's says how many run values there are: eight times as many.
 use crate::Outcome;
 use crate::Request;
 use crate::UNKNOWN;
@@ -7,7 +8,7 @@ use crate::element::byte_to_usize;
 ghost use Prim.Native.Nat.{_<_};
 ghost use Rattle.io.specs.Counts.{Counts};
 
-// The longest file is that of 256 entries.
+// The longest file is that of 1,024 run values.
 type File = [u8; 10260];
 
 type Block = [u64; 1024];
@@ -78,7 +79,7 @@ fn size(request: Request, file: &[u8]) -> usize
     if n <= file.len() { n } else { 0 }
 }
 
-// The length of the block's body. Of run values there are 16: such a body is as long as a packed one of width 17.
+// The length of the block's body.
 fn body(request: Request) -> usize
     ensures { λ r. ⌜ r < 65536 ⌝ }
 {
@@ -88,7 +89,7 @@ fn body(request: Request) -> usize
     let kind = request.start;
     match kind {
         2 => 128 + 128 * request.width,
-        3 => 2048 + 8 * 16,
+        3 => 2048 + 64 * request.width,
         _ => 128 * request.width,
     }
 }

@@ -1,26 +1,33 @@
 -- What one block out and the lookup of a row answer, by the tests that they make.
 -- Assumes nothing.
-use mathlib.Core.List.{List, [], _∷_}
-use mathlib.Core.Path.{_≡_, refl, sym, ap, ap₂, _∙_}
-use Prim.Native.Nat.{ℕ, _*_, _/_, _≤_, _<_}
+use mathlib.Core.Bool.{Bool, true, false}
+use mathlib.Core.List.{List, [], _∷_, _++_}
+use mathlib.Core.Path.{_≡_, refl, sym, ap, _∙_}
+use Prim.Native.Nat.{ℕ, _/_, _≤_, _<_}
+use native.Mathlib.Decide.{decLt}
 use native.Mathlib.Omega.{arith}
 use lib.ListN.{length}
 use borrow.Author.Tests.{lt-ltb, le-ltb, eq-eqb, ne-eqb}
+use Rattle.places.specs.Answers.{unless}
 use Rattle.places.specs.Pick.{pick}
 use Rattle.contents.specs.declared.FileAnswer.{FileAnswer}
-use Rattle.contents.specs.declared.FileAnswer.the-variants.{Done, Block, Beyond}
-use Rattle.contents.specs.Answers.{a-number, fileAnswer, numberOf, isDone}
-use Rattle.contents.specs.Contents.{count}
-use Rattle.contents.proofs.Answers.{passed, stopped, none-left, in-front-done, in-front-refused, number-done}
+use Rattle.contents.specs.declared.FileAnswer.the-variants.{Done, Block, Beyond, Runs}
+use Rattle.contents.specs.Answers.{FileTest, a-number, passes, refusal, fileAnswer, numberOf, isDone, left}
+use Rattle.contents.specs.Contents.{count, contentsTests}
+use Rattle.contents.proofs.Answers.{passed, stopped, none-left, in-front-done, in-front-refused}
 use Rattle.files.specs.declared.Row.the-variants.{Value, Refused}
-use Rattle.files.specs.Files.{rowCount, rowAt, fileTests, blockTests, rowTests}
+use Rattle.files.specs.Files.{rowCount, rowAt, blockIn, fileTests, blockTests, blockLeaves, rowTests}
 use Rattle.files.specs.Rows.{rowOf}
+use Rattle.files.proofs.Files.{goodIn, left-picked}
+use Rattle.files.proofs.Others.{badBut, asked-bad, none-bad}
+
+-- Two tests that answer alike do so behind the same tests.
+last-same : (xs : List FileTest) (x y : FileTest) → fileAnswer (x ∷ []) ≡ fileAnswer (y ∷ []) → fileAnswer (xs ++ (x ∷ [])) ≡ fileAnswer (xs ++ (y ∷ []))
+unfolding fileAnswer
+last-same [] x y e = e
+last-same (z ∷ xs) x y e = ap (unless (passes z) (refusal z)) (last-same xs x y e)
 
 module _ (l : List ℕ) where
-  -- a file that is refused is not done
-  not-done : (numberOf (fileAnswer (fileTests l)) ≡ 0 → ⊥) → fileAnswer (fileTests l) ≡ Done → ⊥
-  not-done n d = n (ap numberOf d)
-
   module _ (b : ℕ) (output : List ℕ) where
     pub bad-output : (length output ≡ 1024 → ⊥) → fileAnswer (blockTests l b output) ≡ Block
     bad-output h = stopped _ _ (ne-eqb (length output) 1024 h)
@@ -28,7 +35,8 @@ module _ (l : List ℕ) where
     module _ (e : length output ≡ 1024) where
       pub block-refused : (numberOf (fileAnswer (fileTests l)) ≡ 0 → ⊥) → fileAnswer (blockTests l b output) ≡ fileAnswer (fileTests l)
       block-refused n =
-          passed _ _ (eq-eqb (length output) 1024 e) ∙ in-front-refused (fileTests l) (a-number b (count l) ∷ []) (not-done n)
+          passed _ _ (eq-eqb (length output) 1024 e)
+          ∙ in-front-refused (fileTests l) (a-number b (count l) ∷ []) (λ d. n (ap numberOf d))
 
       module _ (done : fileAnswer (fileTests l) ≡ Done) where
         number-left : fileAnswer (blockTests l b output) ≡ fileAnswer (a-number b (count l) ∷ [])
@@ -40,23 +48,43 @@ module _ (l : List ℕ) where
         pub block-done : b < count l → fileAnswer (blockTests l b output) ≡ Done
         block-done h = number-left ∙ passed _ _ (lt-ltb b (count l) h) ∙ none-left
 
+      -- Where the contents are right and every other block is good, block b decides.
+      module _ (right : fileAnswer (contentsTests l (length l)) ≡ Done) (none : badBut l b ≡ count l) (h : b < count l) where
+        pub block-decides : fileAnswer (blockTests l b output) ≡ pick (goodIn l b) Done (Runs b)
+        block-decides = go (goodIn l b) refl
+          where
+            go : (t : Bool) → goodIn l b ≡ t → fileAnswer (blockTests l b output) ≡ pick t Done (Runs b)
+            go true g = block-done (none-bad l right b none (λ _. g)) h
+            go false g =
+                let bad = asked-bad l right b (count l) (sym none) (omega arith) h g in
+                let thirteen : numberOf (fileAnswer (fileTests l)) ≡ 13 = ap numberOf bad in
+                block-refused (λ z. omega arith) ∙ bad
+
+        pub block-leaves : blockLeaves l b output ≡ pick (goodIn l b) (blockIn l b) output
+        unfolding blockLeaves
+        block-leaves = ap (λ a. left a (blockIn l b) output) block-decides ∙ left-picked (goodIn l b) b (blockIn l b) output
+
   module _ (p : ℕ) where
     -- what a row gives, by its answer
     row-is : (a : FileAnswer) → fileAnswer (rowTests l p) ≡ a → rowOf l p ≡ pick (isDone a) (Value (rowAt l p)) (Refused a)
     unfolding rowOf
     row-is a e = ap (λ a. pick (isDone a) (Value (rowAt l p)) (Refused a)) e
 
-    pub row-refused : (numberOf (fileAnswer (fileTests l)) ≡ 0 → ⊥) → rowOf l p ≡ Refused (fileAnswer (fileTests l))
-    row-refused n =
-        row-is (fileAnswer (fileTests l)) (in-front-refused (fileTests l) (a-number p (rowCount l) ∷ []) (not-done n))
-        ∙ simp (ne-eqb (numberOf (fileAnswer (fileTests l))) 0 n)
+    same-number : fileAnswer (a-number p (rowCount l) ∷ []) ≡ fileAnswer (a-number (p / 1024) (count l) ∷ [])
+    same-number =
+        elim (decLt (p / 1024) (count l)) [
+          | yes h ↦ passed _ _ (lt-ltb p (rowCount l) (omega arith)) ∙ sym (passed _ _ (lt-ltb (p / 1024) (count l) h))
+          | no h ↦ stopped _ _ (le-ltb p (rowCount l) (omega arith)) ∙ sym (stopped _ _ (le-ltb (p / 1024) (count l) (omega arith)))
+        ]
 
-    module _ (done : fileAnswer (fileTests l) ≡ Done) where
-      row-number-left : fileAnswer (rowTests l p) ≡ fileAnswer (a-number p (rowCount l) ∷ [])
-      row-number-left = in-front-done (fileTests l) (a-number p (rowCount l) ∷ []) done
+    -- The lookup of row p is answered as one block out of block p / 1,024 is.
+    pub row-as-block : (output : List ℕ) → length output ≡ 1024 → fileAnswer (rowTests l p) ≡ fileAnswer (blockTests l (p / 1024) output)
+    row-as-block output e =
+        last-same (fileTests l) (a-number p (rowCount l)) (a-number (p / 1024) (count l)) same-number
+        ∙ sym (passed _ _ (eq-eqb (length output) 1024 e))
 
-      pub row-beyond : count l ≤ p / 1024 → rowOf l p ≡ Refused Beyond
-      row-beyond h = row-is Beyond (row-number-left ∙ stopped _ _ (le-ltb p (rowCount l) (omega arith)))
+    pub row-refused : (a : FileAnswer) → fileAnswer (rowTests l p) ≡ a → (numberOf a ≡ 0 → ⊥) → rowOf l p ≡ Refused a
+    row-refused a e n = row-is a e ∙ simp (ne-eqb (numberOf a) 0 n)
 
-      pub row-done : p / 1024 < count l → rowOf l p ≡ Value (rowAt l p)
-      row-done h = row-is Done (row-number-left ∙ passed _ _ (lt-ltb p (rowCount l) (omega arith)) ∙ none-left)
+    pub row-done : fileAnswer (rowTests l p) ≡ Done → rowOf l p ≡ Value (rowAt l p)
+    row-done e = row-is Done e

@@ -1,5 +1,6 @@
 pub mod Calls
 pub mod Files
+pub mod Others
 pub mod Reasons
 pub mod Rows
 pub mod Steps

@@ -21,7 +21,7 @@ use Rattle.bodies.specs.Bodies.{blockOf, hasGoodRuns}
 use Rattle.files.specs.declared.Row.the-variants.{Value, Refused}
 use Rattle.files.specs.Files.{badRuns, blockIn, rowCount, rowAt, rowsOf, fileTests, blockLeaves}
 use Rattle.files.specs.Rows.{rowOf}
-use Rattle.files.proofs.Calls.{row-done, block-done}
+use Rattle.files.proofs.Calls.{row-as-block, row-done, block-done}
 
 module _ (l : List ℕ) where
   -- A file has 1,024 rows for each of its blocks.
@@ -39,12 +39,10 @@ module _ (l : List ℕ) where
       → (rowOf l p ≡ Value (getD (rowsOf l) p 0)) × (rowOf l p ≡ Value (getD (blockLeaves l (p / 1024) output) (p % 1024) 0))
   unfolding blockLeaves rowAt
   row-block done p h output e =
-      let b : p / 1024 < count l = omega arith in
-      let looked : rowOf l p ≡ Value (getD (blockIn l (p / 1024)) (p % 1024) 0) = row-done l p done b in (
+      let out = block-done l (p / 1024) output e done (omega arith) in
+      let looked : rowOf l p ≡ Value (getD (blockIn l (p / 1024)) (p % 1024) 0) = row-done l p (row-as-block l p output e ∙ out) in (
         looked ∙ ap Value (sym (row-place p h)),
-        looked
-            ∙ ap (λ a. Value (getD (left a (blockIn l (p / 1024)) output) (p % 1024) 0))
-            (sym (block-done l (p / 1024) output e done b)),
+        looked ∙ ap (λ a. Value (getD (left a (blockIn l (p / 1024)) output) (p % 1024) 0)) (sym out),
       )
 
 -- ---- the worked files

@@ -11,7 +11,6 @@ use lib.Dec.{eqb}
 use lib.ListN.{length}
 use borrow.Author.Tests.{eqb-true, eqb-false}
 use Rattle.places.specs.Answers.{unless}
-use Rattle.places.specs.Pick.{pick}
 use Rattle.contents.specs.declared.FileAnswer.{FileAnswer}
 use Rattle.contents.specs.declared.FileAnswer.the-variants.{Done, Runs}
 use Rattle.contents.specs.Answers.{good-runs, fileAnswer, numberOf, isDone}
@@ -21,7 +20,7 @@ use Rattle.contents.proofs.Answers.{passed, stopped, none-left, in-front-done, 
 use Rattle.contents.proofs.First.{first-ext}
 use Rattle.bodies.specs.Bodies.{hasGoodRuns, bodyTests}
 use Rattle.files.specs.Files.{bodyOf, blockIn, badRuns, fileTests, blockTests, blockLeaves}
-use Rattle.files.proofs.Files.{body-tested}
+use Rattle.files.proofs.Files.{body-tested, tested-done}
 
 -- This is the lowest block whose body the second step refuses, and the count where there is none.
 abbrev pub badBody : List ℕ → ℕ
@@ -32,10 +31,6 @@ abbrev pub bySteps : List ℕ → FileAnswer
 bySteps l =
     unless (isDone (fileAnswer (contentsTests l (length l)))) (fileAnswer (contentsTests l (length l)))
     (unless (eqb (badBody l) (count l)) (Runs (badBody l)) Done)
-
-tested-done : (b : Bool) → isDone (pick b Done (Runs 0)) ≡ b
-tested-done true = refl
-tested-done false = refl
 
 module _ (l : List ℕ) where
   -- behind right contents the second step is refused exactly where a run index is out of range

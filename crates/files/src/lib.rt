@@ -1,81 +1,95 @@
 // The column file (document 02, Item 1): a check of the whole file, one block out, and the value at a file row. A file is lent as
 // bytes. Every call checks the whole file before it answers for a block or a row, by the two steps that stand in crates of
-// their own: the contents against the file's length, and each body against its entry.
+// their own: the contents against the file's length, and each body against its entry. No call reads a body twice.
 use contents::FileAnswer;
 use contents::count;
 use contents::entry_or;
 ghost use mathlib.Core.Path.{_≡_};
 ghost use Prim.Native.Nat.{_<_};
+ghost use lib.Dec.{eqb};
 ghost use lib.ListN.{length};
-ghost use Rattle.contents.specs.declared.FileAnswer.the-variants.{Done};
-ghost use Rattle.contents.specs.Answers.{fileAnswer, good-runs};
-ghost use Rattle.contents.specs.Contents.{count as countIn, bodyStart, contentsTests};
-ghost use Rattle.files.specs.Files.{badRuns, blockIn, fileTests, blockTests, blockLeaves};
+ghost use Rattle.places.specs.Pick.{pick, either};
+ghost use Rattle.contents.specs.declared.FileAnswer.the-variants.{Done, Runs};
+ghost use Rattle.contents.specs.Answers.{fileAnswer, numberOf};
+ghost use Rattle.contents.specs.Contents.{count as countIn, entryOf, bodyStart, contentsTests};
+ghost use Rattle.contents.specs.First.{firstBad};
+ghost use Rattle.bodies.specs.Bodies.{hasGoodRuns};
+ghost use Rattle.files.specs.Files.{bodyOf, blockIn, fileTests, blockTests, blockLeaves};
 ghost use Rattle.files.specs.Rows.{answerOf, valueOf, rowOf};
-ghost use mathlib.Core.List.{[], _∷_};
 
-// Checks the whole file.
+// Checks the whole file. No block has the count for its number, so none is left out.
 pub fn check(file: &[u8]) -> FileAnswer
     ensures { λ r. ⌜ r ≡ fileAnswer (fileTests (now (file .entry))) ⌝ }
+{
+    check_but(file, count(file))
+}
+
+// Checks the file but for the run indices of block b, which are looked at where that block is laid down. A refusal is that of the
+// whole file: where a later block is bad nothing is laid down, so block b is looked at here, and the lower one is reported.
+fn check_but(file: &[u8], b: usize) -> FileAnswer
+    ensures { λ r. ⌜ ((numberOf r ≡ 0 → ⊥) → r ≡ fileAnswer (fileTests (now (file .entry)))) ⌝ }
+    ensures { λ r. ⌜ (numberOf r ≡ 0 → fileAnswer (contentsTests (now (file .entry)) (length (now (file .entry)))) ≡ Done) ⌝ }
+    ensures { λ r. ⌜ (numberOf r ≡ 0 → firstBad (countIn (now (file .entry))) (λ i. either (eqb i b) (hasGoodRuns (entryOf (now (file .entry)) i) (bodyOf (now (file .entry)) i))) ≡ countIn (now (file .entry))) ⌝ }
 {
     let answer = contents::check(file, file.len());
     if answer.number() != 0 {
         return answer;
     }
-    check_bodies(file)
+    let bad = first_bad_but(file, b);
+    let n = count(file);
+    if bad == n {
+        return FileAnswer::Done;
+    }
+    if b < bad {
+        if !is_good(file, b, body_start(file, b)) {
+            return FileAnswer::Runs(b);
+        }
+    }
+    FileAnswer::Runs(bad)
 }
 
-// The bodies of a file whose contents are right: back to back, each as its entry says.
-fn check_bodies(file: &[u8]) -> FileAnswer
+// The lowest block other than b that has a run index out of range, and the count where there is none, in a file whose contents
+// are right. The body of block b is not read.
+fn first_bad_but(file: &[u8], b: usize) -> usize
     requires { ⌜ fileAnswer (contentsTests (now file) (length (now file))) ≡ Done ⌝ }
-    ensures { λ r. ⌜ r ≡ fileAnswer (good-runs (badRuns (now (file .entry))) (countIn (now (file .entry))) ∷ []) ⌝ }
+    ensures { λ r. ⌜ r ≡ firstBad (countIn (now (file .entry))) (λ i. either (eqb i b) (hasGoodRuns (entryOf (now (file .entry)) i) (bodyOf (now (file .entry)) i))) ⌝ }
 {
     let n = count(file);
     let mut at = 4 + n * 16;
     let mut i = 0;
     while i < n {
-        let e = entry_or(file, i);
-        let end = at + e.length as usize;
-        let answer = bodies::check(e, &file[at..end]);
-        if answer.number() != 0 {
-            return FileAnswer::Runs(i);
+        if i != b {
+            if !is_good(file, i, at) {
+                return i;
+            }
         }
-        at = end;
+        let e = entry_or(file, i);
+        at += e.length as usize;
         i += 1;
     }
-    FileAnswer::Done
+    n
 }
 
-// Lays block b of the file down.
-pub fn block_out(file: &[u8], b: usize, output: &mut [u64]) -> FileAnswer
-    ensures { λ r. ⌜ r ≡ fileAnswer (blockTests (now (file .entry)) b (now (output .entry))) ⌝ }
-    ensures { λ _. ⌜ now (output .exit) ≡ blockLeaves (now (file .entry)) b (now (output .entry)) ⌝ }
+// Whether body i, which begins at `at`, has its run indices in range, in a file whose contents are right.
+fn is_good(file: &[u8], i: usize, at: usize) -> bool
+    requires { ⌜ fileAnswer (contentsTests (now file) (length (now file))) ≡ Done ⌝ }
+    requires { ⌜ i < countIn (now file) ⌝ }
+    requires { ⌜ at ≡ bodyStart (now file) i ⌝ }
+    ensures { λ r. ⌜ r ≡ hasGoodRuns (entryOf (now (file .entry)) i) (bodyOf (now (file .entry)) i) ⌝ }
 {
-    if output.len() != 1024 {
-        return FileAnswer::Block;
-    }
-    let answer = check(file);
-    if answer.number() != 0 {
-        return answer;
-    }
-    if count(file) <= b {
-        return FileAnswer::Beyond;
-    }
-    lay_down(file, b, output);
-    FileAnswer::Done
+    bodies::check(entry_or(file, i), body(file, i, at)).number() == 0
 }
 
-// Block b of a file that is right.
-fn lay_down(file: &[u8], b: usize, output: &mut [u64])
-    requires { ⌜ fileAnswer (fileTests (now file)) ≡ Done ⌝ }
-    requires { ⌜ b < countIn (now file) ⌝ }
-    requires { ⌜ length (now output) ≡ 1024 ⌝ }
-    ensures { λ _. ⌜ now (output .exit) ≡ blockIn (now (file .entry)) b ⌝ }
+// Body i, which begins at `at`, of a file whose contents are right.
+fn body(file: &[u8], i: usize, at: usize) -> &[u8]
+    requires { ⌜ fileAnswer (contentsTests (now file) (length (now file))) ≡ Done ⌝ }
+    requires { ⌜ i < countIn (now file) ⌝ }
+    requires { ⌜ at ≡ bodyStart (now file) i ⌝ }
+    ensures { λ r. ⌜ now r ≡ bodyOf (now (file .entry)) i ⌝ }
 {
-    let at = body_start(file, b);
-    let e = entry_or(file, b);
+    let e = entry_or(file, i);
     let end = at + e.length as usize;
-    bodies::block_of(e, &file[at..end], output);
+    &file[at..end]
 }
 
 // Where body b begins, in a file whose contents are right.
@@ -92,6 +106,40 @@ fn body_start(file: &[u8], b: usize) -> usize
         i += 1;
     }
     at
+}
+
+// Lays block b of the file down.
+pub fn block_out(file: &[u8], b: usize, output: &mut [u64]) -> FileAnswer
+    ensures { λ r. ⌜ r ≡ fileAnswer (blockTests (now (file .entry)) b (now (output .entry))) ⌝ }
+    ensures { λ _. ⌜ now (output .exit) ≡ blockLeaves (now (file .entry)) b (now (output .entry)) ⌝ }
+{
+    if output.len() != 1024 {
+        return FileAnswer::Block;
+    }
+    let answer = check_but(file, b);
+    if answer.number() != 0 {
+        return answer;
+    }
+    if count(file) <= b {
+        return FileAnswer::Beyond;
+    }
+    lay_down(file, b, output)
+}
+
+// Lays block b down, in a file whose contents are right. Where a run index is out of range, block_of finds it and writes nothing.
+fn lay_down(file: &[u8], b: usize, output: &mut [u64]) -> FileAnswer
+    requires { ⌜ fileAnswer (contentsTests (now file) (length (now file))) ≡ Done ⌝ }
+    requires { ⌜ b < countIn (now file) ⌝ }
+    requires { ⌜ length (now output) ≡ 1024 ⌝ }
+    ensures { λ r. ⌜ r ≡ pick (hasGoodRuns (entryOf (now (file .entry)) b) (bodyOf (now (file .entry)) b)) Done (Runs b) ⌝ }
+    ensures { λ _. ⌜ now (output .exit) ≡ pick (hasGoodRuns (entryOf (now (file .entry)) b) (bodyOf (now (file .entry)) b)) (blockIn (now (file .entry)) b) (now (output .entry)) ⌝ }
+{
+    let at = body_start(file, b);
+    let answer = bodies::block_of(entry_or(file, b), body(file, b, at), output);
+    if answer.number() != 0 {
+        return FileAnswer::Runs(b);
+    }
+    FileAnswer::Done
 }
 
 // The value at a file row, or the refusal.
@@ -126,16 +174,11 @@ impl Row {
 pub fn row_at(file: &[u8], p: usize) -> Row
     ensures { λ r. ⌜ r ≡ rowOf (now (file .entry)) p ⌝ }
 {
-    let answer = check(file);
+    let mut block = [0u64; 1024];
+    let answer = block_out(file, p / 1024, &mut block);
     if answer.number() != 0 {
         return Row::Refused(answer);
     }
-    let b = p / 1024;
-    if count(file) <= b {
-        return Row::Refused(FileAnswer::Beyond);
-    }
-    let mut block = [0u64; 1024];
-    lay_down(file, b, &mut block);
     let v = block[p % 1024];
     Row::Value(v)
 }

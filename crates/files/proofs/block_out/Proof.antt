@@ -4,33 +4,37 @@ use mathlib.Core.Path.{_≡_, refl, sym, ap, _∙_}
 use Prim.Native.Nat.{_≤_, _<_}
 use native.Mathlib.Omega.{arith}
 use denote.Ref.{now}
+use lib.ListN.{length}
 use borrow.Author.Needs.{needs}
 use Rattle.contents.specs.declared.FileAnswer.the-variants.{Done}
 use Rattle.contents.specs.Answers.{numberOf, fileAnswer, left}
-use Rattle.contents.specs.Contents.{count}
-use Rattle.contents.proofs.Answers.{number-done, left-refused}
-use Rattle.files.specs.Files.{fileTests, blockTests, blockIn, blockLeaves}
-use Rattle.files.proofs.Calls.{bad-output, block-refused, block-beyond, block-done}
-use Rattle.files.proofs.Files.{count-read, file-contents}
+use Rattle.contents.specs.Contents.{count, contentsTests}
+use Rattle.contents.proofs.Answers.{left-refused}
+use Rattle.files.specs.Files.{blockTests, blockIn, blockLeaves}
+use Rattle.files.proofs.Calls.{bad-output, block-refused, block-beyond, block-decides, block-leaves}
+use Rattle.files.proofs.Files.{count-read}
+use Rattle.files.proofs.Others.{badBut, none-bad}
 use Rattle.files.proofs.block_out.Statement.{statement}
 use Rattle.files.proofs.block_out.Tie as tie
 
--- the file is right where the number is 0
-file-done : (c : tie.Else2) → fileAnswer (fileTests (now (c .before .before .before .before .before .before .args .file))) ≡ Done
-file-done c = sym (c .before .before .check .ensures) ∙ number-done _ (sym (c .before .number .ensures) ∙ c .if2 .left)
+-- the contents are right where the number is 0, and every other block is good
+rest : (c : tie.Else2) → (fileAnswer (contentsTests (now (c .before .before .before .before .before .before .args .file)) (length (now (c .before .before .before .before .before .before .args .file)))) ≡ Done) × (badBut (now (c .before .before .before .before .before .before .args .file)) (c .before .before .before .before .before .before .args .b) ≡ count (now (c .before .before .before .before .before .before .args .file)))
+rest c =
+    let number = sym (c .before .number .ensures) ∙ c .if2 .left in
+    (c .before .before .check-but .ensures .1 .0 number, c .before .before .check-but .ensures .1 .1 number)
 
 -- the count that was read
 count-is : (c : tie.After-count) → c .count .result ≡ count (now (c .before .before .before .before .before .before .before .args .file))
 count-is c =
     let l = now (c .before .before .before .before .before .before .before .args .file) in
-    c .count .ensures ∙ count-read l (file-contents l (file-done (c .before)))
+    c .count .ensures ∙ count-read l (rest (c .before) .0)
 
 returns : tie.Need-returns
 unfolding blockLeaves
 returns c = rw (bad-output (now (c .before .before .before .args .file)) _ _ (c .if1 .taken)) (refl, refl)
 
-check-requires : tie.Need-check-requires
-check-requires c κs = search needs
+check-but-requires : tie.Need-check-but-requires
+check-but-requires c κs = search needs
 
 number-requires : tie.Need-number-requires
 number-requires c κs = search needs
@@ -41,9 +45,10 @@ returns-2 c =
     let asked = c .before .before in
     let start = asked .before .before .before .before in
     let l = now (start .args .file) in
-    let number : numberOf (fileAnswer (fileTests l)) ≡ 0 → ⊥ = λ e. c .if2 .taken (c .before .number .ensures ∙ ap numberOf (asked .check .ensures) ∙ e) in
-    let bad = block-refused l (start .args .b) (now (start .args .output)) (omega arith) number in
-    (asked .check .ensures ∙ sym bad, sym (left-refused (fileAnswer (blockTests l (start .args .b) (now (start .args .output)))) (blockIn l (start .args .b)) (now (start .args .output)) (λ e. number (sym (ap numberOf bad) ∙ e))))
+    let refused : numberOf (asked .check-but .result) ≡ 0 → ⊥ = λ e. c .if2 .taken (c .before .number .ensures ∙ e) in
+    let file = asked .check-but .ensures .0 refused in
+    let bad = block-refused l (start .args .b) (now (start .args .output)) (omega arith) (λ e. refused (ap numberOf file ∙ e)) in
+    (file ∙ sym bad, sym (left-refused (fileAnswer (blockTests l (start .args .b) (now (start .args .output)))) (blockIn l (start .args .b)) (now (start .args .output)) (λ e. refused (ap numberOf (file ∙ sym bad) ∙ e))))
 
 count-requires : tie.Need-count-requires
 count-requires c κs = search needs
@@ -53,30 +58,39 @@ unfolding blockLeaves
 returns-3 c =
     let at = c .before in
     let start = at .before .before .before .before .before .before .before in
-    rw (block-beyond (now (start .args .file)) (start .args .b) (now (start .args .output)) (omega arith) (file-done (at .before)) (omega (arith, count-is at, c .if3 .taken))) (refl, refl)
+    let l = now (start .args .file) in
+    let others = rest (at .before) in
+    let high : count l ≤ start .args .b = omega (arith, count-is at, c .if3 .taken) in
+    let done = none-bad l (others .0) (start .args .b) (others .1) (λ h. absurd (omega arith)) in
+    rw (block-beyond l (start .args .b) (now (start .args .output)) (omega arith) done high) (refl, refl)
 
 lay-down-requires : tie.Need-lay-down-requires
 lay-down-requires c κs =
     let at = c .before .before in
-    (file-done (at .before), (omega (arith, count-is at, c .before .if3 .left), search needs))
+    (rest (at .before) .0, (omega (arith, count-is at, c .before .if3 .left), search needs))
 
 same-length : tie.Need-same-length
 same-length c = search needs
 
 returns-4 : tie.Need-returns-4
-unfolding blockLeaves
 returns-4 c =
     let at = c .before .before .before .before .before in
     let start = at .before .before .before .before .before .before .before in
-    rw (block-done (now (start .args .file)) (start .args .b) (now (start .args .output)) (omega arith) (file-done (at .before)) (omega (arith, count-is at, c .before .before .before .before .if3 .left)))
-    (refl, c .before .before .lay-down .ensures)
+    let l = now (start .args .file) in
+    let b = start .args .b in
+    let output = now (start .args .output) in
+    let others = rest (at .before) in
+    let low : b < count l = omega (arith, count-is at, c .before .before .before .before .if3 .left) in (
+      c .before .before .lay-down .ensures .0 ∙ sym (block-decides l b output (omega arith) (others .0) (others .1) low),
+      c .before .before .lay-down .ensures .1 ∙ sym (block-leaves l b output (omega arith) (others .0) (others .1) low),
+    )
 
 pub block-out-spec : {M : Type 1} → statement M
 block-out-spec =
     tie.close
     (tie.spec
     returns
-    check-requires
+    check-but-requires
     number-requires
     returns-2
     count-requires

@@ -1,46 +1,34 @@
--- `files::check` meets its contract: the contents first, and then the bodies.
+-- `files::check` meets its contract: no block is left out.
 -- Assumes nothing.
-use mathlib.Core.List.{[], _∷_}
-use mathlib.Core.Path.{_≡_, sym, ap, _∙_}
+use mathlib.Core.Path.{sym, _∙_}
+use native.Mathlib.Decide.{ℕ-discrete}
+use native.Mathlib.Omega.{arith}
 use denote.Ref.{now}
-use lib.ListN.{length}
 use borrow.Author.Needs.{needs}
-use Rattle.contents.specs.declared.FileAnswer.the-variants.{Done}
-use Rattle.contents.specs.Answers.{good-runs, fileAnswer, numberOf}
-use Rattle.contents.specs.Contents.{count, contentsTests}
-use Rattle.contents.proofs.Answers.{in-front-done, in-front-refused, number-done}
-use Rattle.files.specs.Files.{badRuns}
+use Rattle.contents.specs.Answers.{numberOf}
+use Rattle.contents.proofs.Answers.{number-done}
+use Rattle.files.proofs.Files.{count-read}
+use Rattle.files.proofs.Others.{none-bad}
 use Rattle.files.proofs.check.Statement.{statement}
 use Rattle.files.proofs.check.Tie as tie
 
-check-requires : tie.Need-check-requires
-check-requires c κs = search needs
+count-requires : tie.Need-count-requires
+count-requires c κs = search needs
 
-number-requires : tie.Need-number-requires
-number-requires c κs = search needs
-
--- the contents are right where the number is 0
-contents-done : (c : tie.Else1) → fileAnswer (contentsTests (now (c .before .before .before .before .args .file)) (length (now (c .before .before .before .before .args .file)))) ≡ Done
-contents-done c = sym (c .before .before .check .ensures) ∙ number-done _ (sym (c .before .number .ensures) ∙ c .if1 .left)
+check-but-requires : tie.Need-check-but-requires
+check-but-requires c κs = search needs
 
 returns : tie.Need-returns
 returns c =
-    let asked = c .before .before in
-    let l = now (asked .before .before .args .file) in
-    asked .check .ensures
-    ∙ sym
-    (in-front-refused (contentsTests l (length l)) (good-runs (badRuns l) (count l) ∷ [])
-    (λ d. c .if1 .taken (c .before .number .ensures ∙ ap numberOf (asked .check .ensures ∙ d))))
-
-check-bodies-requires : tie.Need-check-bodies-requires
-check-bodies-requires c κs = contents-done c
-
-returns-2 : tie.Need-returns-2
-returns-2 c =
-    let l = now (c .before .before .before .before .before .args .file) in
-    c .check-bodies .ensures
-    ∙ sym (in-front-done (contentsTests l (length l)) (good-runs (badRuns l) (count l) ∷ []) (contents-done (c .before)))
+    let l = now (c .before .before .before .args .file) in
+    let r = c .check-but .result in
+    elim (ℕ-discrete (numberOf r) 0) [
+      | yes z ↦
+          let right = c .check-but .ensures .1 .0 z in
+          number-done r z
+          ∙ sym (none-bad l right (c .before .count .result) (c .check-but .ensures .1 .1 z) (λ h. absurd (omega (arith, c .before .count .ensures, count-read l right))))
+      | no n ↦ c .check-but .ensures .0 n
+    ]
 
 pub check-spec : {M : Type 1} → statement M
-check-spec =
-    tie.close (tie.spec check-requires number-requires returns check-bodies-requires returns-2)
+check-spec = tie.close (tie.spec count-requires check-but-requires returns)
