@@ -3,7 +3,7 @@
 A lane is one whole number, the sum of its word k times 2^(64·k). Its digits to the base 2^W are the lane's values by
 rows. Nothing here shifts or masks, and nothing comes from the port.
 
-The generator needs pack and delta to make bodies. The model needs unpack, undelta and decode.
+The model of the reader needs unpack, undelta and decode. That of the writer needs pack and delta, and so do the cases.
 """
 
 T = 64
@@ -16,11 +16,15 @@ def place(row, lane):
     return ORDER[row // 8] * 16 + row % 8 * 128 + lane
 
 
+PLACES = [[place(row, lane) for row in range(T)] for lane in range(LANES)]  # of each lane, by rows
+
+
 def pack(width, values):
     """The LANES · width words of 1,024 values, each taken modulo 2^width."""
     words = [0] * (LANES * width)
+    base, powers = 2**width, [2 ** (width * row) for row in range(T)]
     for lane in range(LANES):
-        number = sum(values[place(row, lane)] % 2**width * 2 ** (width * row) for row in range(T))
+        number = sum(values[p] % base * power for p, power in zip(PLACES[lane], powers))
         for k in range(width):
             number, words[LANES * k + lane] = divmod(number, 2**T)
     return words
@@ -29,10 +33,11 @@ def pack(width, values):
 def unpack(width, words):
     """The 1,024 digits that the lanes' numbers hold; zeros at width 0, since then each number is 0."""
     values = [0] * 1024
+    base, powers = 2**width, [2 ** (T * k) for k in range(width)]
     for lane in range(LANES):
-        number = sum(words[LANES * k + lane] * 2 ** (T * k) for k in range(width))
-        for row in range(T):
-            number, values[place(row, lane)] = divmod(number, 2**width)
+        number = sum(words[LANES * k + lane] * power for k, power in enumerate(powers))
+        for p in PLACES[lane]:
+            number, values[p] = divmod(number, base)
     return values
 
 
@@ -41,10 +46,9 @@ def delta(values, base):
     out = [0] * 1024
     for lane in range(LANES):
         before = base[lane]
-        for row in range(T):
-            value = values[place(row, lane)]
-            out[place(row, lane)] = (value - before) % 2**T
-            before = value
+        for p in PLACES[lane]:
+            out[p] = (values[p] - before) % 2**T
+            before = values[p]
     return out
 
 
@@ -53,9 +57,9 @@ def undelta(differences, base):
     out = [0] * 1024
     for lane in range(LANES):
         result = base[lane]
-        for row in range(T):
-            result = (result + differences[place(row, lane)]) % 2**T
-            out[place(row, lane)] = result
+        for p in PLACES[lane]:
+            result = (result + differences[p]) % 2**T
+            out[p] = result
     return out
 
 

@@ -1,9 +1,11 @@
 """Cases that nobody thought of: files of random blocks, some of them changed by accident, and random calls.
 
+Two cases of ten are writes, which mixed_writes.py makes, and one reads a file that the model wrote.
+
 Each case has dice of its own, made from the seed and the case's number. So case 17 of a seed is the same however many
 cases are written.
 """
-from . import build, files
+from . import build, files, mixed_writes, writer
 from .build import Dice, any_block, any_runs, column_file, with_index
 from .stream import BLOCK_OUT, CHECK, ROW_LOOKUP, Question
 
@@ -126,9 +128,21 @@ def some_index(dice, size):
     return dice.below(size) if size and dice.below(6) else dice.pick((max(size, 1) - 1, *far))
 
 
+def written_file(dice):
+    """A file as the writer lays it down, and the number of its blocks."""
+    values = mixed_writes.some_values(dice)
+    return writer.file_of(values), len(values) // 1024
+
+
 def case(seed, i):
+    sort = Dice("mixed sort", seed, i).below(10)
+    return mixed_writes.case(seed, i) if sort < 2 else reading(seed, i, written_file if sort == 2 else some_file)
+
+
+def reading(seed, i, file_from):
+    """One of the reader's calls, on a file that is made from the dice."""
     dice = Dice("mixed", seed, i)
-    data, blocks = some_file(dice)
+    data, blocks = file_from(dice)
     op = dice.pick((CHECK, BLOCK_OUT, BLOCK_OUT, ROW_LOOKUP, ROW_LOOKUP))
     name = f"mixed {seed} case {i}"
     if op == CHECK:

@@ -1,26 +1,24 @@
 """Holds the model and the cases to what can be said of them without running any of the port.
 
 Each check is a function that gives the things that are not so, in words. Numbers here are worked out by hand from
-documents 01 and 02.
+documents 01 and 02. What is said of writes stands in check_writes.py.
 """
 import io
 import struct
 
-from . import build, files, layout, mixed, sweep
+from . import build, check_writes, files, layout, mixed, mixed_writes, sweep
 from .build import Dice, column_file
+from .check_writes import unless
 from .files import DIFFERENCES, FRAME, PACKED, RUNS
-from .stream import BLOCK_OUT, CHECK, ROW_LOOKUP, Outcome, answered, cases, record, replay
+from .stream import BLOCK_OUT, CHECK, ROW_LOOKUP, WRITE, Outcome, Question, answered, cases, record, replay
 
-GIVEN = {  # The numbers that each call can give, from Item 1.
+GIVEN = {  # The numbers that each call can give, from Items 1 and 3.
     CHECK: {0, 8, 9, 10, 11, 13},
     BLOCK_OUT: {0, 2, 8, 9, 10, 11, 12, 13},
     ROW_LOOKUP: {0, 8, 9, 10, 11, 12, 13},
+    WRITE: {0, 2, 14},
 }
-
-
-def unless(good, words):
-    if not good:
-        yield words
+OF_READER = (CHECK, BLOCK_OUT, ROW_LOOKUP)
 
 
 def block_of(block):
@@ -130,7 +128,7 @@ def expected_of(steps, way):
 
 
 def every_set_of_steps():
-    for op in GIVEN:
+    for op in OF_READER:
         for way in range(len(sweep.WAYS)):
             yield from ((op, way, steps) for steps in sweep.sets_of_steps(op, way))
 
@@ -154,9 +152,9 @@ def order_of_refusals(asked):
 
 
 def what_is_reached(name, questions):
-    """Every number that a call can give is given, and no other; every kind is read; outputs change and stay."""
+    """Every number that a call can give, and no other; every kind is read and written; outputs change and stay."""
     reached = {op: set() for op in GIVEN}
-    kinds = set()
+    kinds, written = set(), set()
     for question in questions:
         outcome = answered(question)
         reached[question.op].add(outcome.number)
@@ -164,13 +162,26 @@ def what_is_reached(name, questions):
             entry = files.entry_at(question.a, question.index)
             kinds.add((entry.kind, entry.width if entry.kind != RUNS else entry.length))
             yield from unless(outcome.c != question.c, f"{name}, {question.name}: the output would not change")
+        if question.op == WRITE and not outcome.number:
+            written |= {entry.kind for entry in files.entries_of(outcome.c)}
+            yield from unless(outcome.c != question.c, f"{name}, {question.name}: the output would not change")
         if outcome.number:
             yield from unless(outcome.c == question.c, f"{name}, {question.name}: a refusal changes the output")
             yield from unless(outcome.value == 0, f"{name}, {question.name}: a refusal gives a value")
     yield from unless(reached == GIVEN, f"{name}: the numbers given are {reached}")
+    yield from unless(written == {PACKED, FRAME, DIFFERENCES}, f"{name}: the kinds written are {written}")
     edges = {(kind, width) for kind in (PACKED, FRAME, DIFFERENCES) for width in sweep.EDGE_WIDTHS}
     edges |= {(RUNS, 2048 + 8), (RUNS, 2048 + 8 * 1024)}
     yield from unless(edges <= kinds, f"{name}: no block out of kind and width {sorted(edges - kinds)}")
+
+
+def bytes_to_spoil(question, outcome):
+    """Places in the output: its first and last byte. Of a file that is written also one in each field of the contents,
+    the first of the bodies, the file's last, and the one behind it."""
+    at = {0, len(outcome.c) - 1}
+    if question.op == WRITE and not outcome.number:
+        at |= {2, 4, 5, 6, 8, 12, 20, outcome.value - 1, outcome.value}
+    return sorted(at & set(range(len(outcome.c))))
 
 
 def spoiled(questions):
@@ -181,7 +192,9 @@ def spoiled(questions):
         yield question, outcome._replace(place=outcome.place + 1)
         if question.op == ROW_LOOKUP:
             yield question, outcome._replace(value=(outcome.value + 2**63) % 2**64)
-        for at in sorted({0, len(outcome.c) - 1} if outcome.c else ()):
+        if question.op == WRITE:
+            yield question, outcome._replace(value=outcome.value + 1)
+        for at in bytes_to_spoil(question, outcome):
             c = bytearray(outcome.c)
             c[at] ^= 128
             yield question, outcome._replace(c=bytes(c))
@@ -204,6 +217,11 @@ def streams(questions):
     head = struct.pack("<BBHB3xQQQQ4I", ROW_LOOKUP, 64, 0, 0, 0, 7, 0, 1023, len(sweep.SEVENS), 0, 0, 0)
     question = sweep.ask_row("the sevens", sweep.SEVENS, 1023)
     yield from unless(record(question, Outcome(0, 0, b"", 7)) == head + sweep.SEVENS, "a record has another form")
+    head = struct.pack("<BBHB3xQQQQ4I", WRITE, 64, 0, 0, 0, 20, 0, 0, 1024, 0, 23, 0)
+    numbers, before, after = struct.pack("<1024Q", *[7] * 1024), b"\xa5" * 23, sweep.SEVENS + b"\xa5" * 3
+    question = Question(WRITE, "the sevens", numbers, c=before)
+    same = record(question, answered(question)) == head + numbers + before + after
+    yield from unless(same, "a record of a write has another form")
     yield from unless(len(whole) < 1_000_000, f"the sample has {len(whole)} bytes, and is to be below a megabyte")
 
 
@@ -220,5 +238,7 @@ def failures():
     yield from order_of_refusals(set(swept))
     yield from what_is_reached("sweep", swept)
     yield from what_is_reached("sample", sample)
-    yield from what_is_reached("mixed", list(mixed.mixed(1, 600)))
+    yield from what_is_reached("mixed", list(mixed.mixed(1, 800)))
+    yield from check_writes.failures(swept, sample)
+    yield from check_writes.reads_back(check_writes.all_written(mixed_writes.writes(1, 100)))
     yield from streams(sample)

@@ -1,5 +1,9 @@
-"""Shows a column file to a person: its contents as far as they are there, and the answer with what is wrong."""
-from . import files
+"""Shows a column file to a person: its contents as far as they are there, and the answer with what is wrong.
+
+Of a write it shows the three candidates of each block, and the file that the model writes.
+"""
+from . import files, writer
+from .stream import WRITE
 
 
 def plural(n, word):
@@ -86,13 +90,41 @@ def row_lines(data, row):
     yield answer_line(answer)
 
 
+def candidate_lines(values):
+    """For each block the width and the length of every candidate, and which of them is chosen."""
+    for i, block in enumerate(writer.blocks_of(values)):
+        three = writer.candidates(block)
+        said = ", ".join(f"kind {one.kind} width {one.width} length {one.length}" for one in three)
+        yield f"block {i}: {said}; kind {writer.chosen(three).kind} is chosen"
+
+
+def write_lines(values, room):
+    """What the model does with a write: its answer, and the file where there is one."""
+    answer, data = writer.write(values, room)
+    if answer.number != 2:
+        yield from candidate_lines(values)
+    yield answer_line(answer)
+    if data is not None:
+        yield from lines(data)
+
+
+def output_words(expected, answered):
+    """How an output stands to the one that is expected."""
+    if answered == expected:
+        return "as expected"
+    return f"another from byte {next(i for i, (a, b) in enumerate(zip(answered, expected)) if a != b)} on"
+
+
 def case_lines(i, question, expected, answered):
     """A case of a stream, what is expected of it, what the model gives, and its file."""
-    yield f"case {i}: call {question.op}, index {question.index}, output of {plural(len(question.c) // 8, 'place')}"
+    writes = question.op == WRITE
+    room = plural(len(question.c), "byte") if writes else plural(len(question.c) // 8, "place")
+    given = plural(len(question.a) // 8, "number") if writes else f"index {question.index}"
+    yield f"case {i}: call {question.op}, {given}, output of {room}"
     yield f"expected: number {expected.number}, place {expected.place}, value {expected.value}"
     if answered == expected:
         yield "the model gives the same"
     else:
-        same = "as expected" if answered.c == expected.c else "another"
-        yield f"the model: number {answered.number}, place {answered.place}, value {answered.value}, output {same}"
-    yield from lines(question.a)
+        said = f"number {answered.number}, place {answered.place}, value {answered.value}"
+        yield f"the model: {said}, output {output_words(expected.c, answered.c)}"
+    yield from write_lines(files.words_of(question.a), len(question.c)) if writes else lines(question.a)

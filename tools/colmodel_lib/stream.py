@@ -6,11 +6,11 @@ each op, and ELEMENTS the bytes of an element of a, b and c, so a later call nee
 import struct
 from typing import NamedTuple
 
-from . import files
+from . import files, writer
 
 HEAD = struct.Struct("<BBHB3xQQQQ4I")
-CHECK, BLOCK_OUT, ROW_LOOKUP = 16, 17, 18
-ELEMENTS = {CHECK: (1, 1, 8), BLOCK_OUT: (1, 1, 8), ROW_LOOKUP: (1, 1, 8)}
+CHECK, BLOCK_OUT, ROW_LOOKUP, WRITE = 16, 17, 18, 19
+ELEMENTS = {CHECK: (1, 1, 8), BLOCK_OUT: (1, 1, 8), ROW_LOOKUP: (1, 1, 8), WRITE: (8, 1, 1)}
 MOST_BYTES = 2_200_000  # of one buffer in a stream
 
 
@@ -56,7 +56,12 @@ def to_row_lookup(q):
     return refused(answer, q) if answer.number else Outcome(0, 0, q.c, value)
 
 
-CALLS = {CHECK: to_check, BLOCK_OUT: to_block_out, ROW_LOOKUP: to_row_lookup}
+def to_write(q):
+    answer, data = writer.write(files.words_of(q.a), len(q.c))
+    return refused(answer, q) if answer.number else Outcome(0, 0, data + q.c[len(data) :], len(data))
+
+
+CALLS = {CHECK: to_check, BLOCK_OUT: to_block_out, ROW_LOOKUP: to_row_lookup, WRITE: to_write}
 
 
 def answered(question):

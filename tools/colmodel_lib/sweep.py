@@ -2,39 +2,19 @@
 
 Each section is a function that gives questions. What the answer is comes from the model and is never written here; the
 one exception is the order of the refusals, which stands again in STEPS, so that the selfcheck can hold the model to it.
+The cases of Item 3 come after these, from sweep_writes.py.
 """
-from . import build, files
+from . import build, files, sweep_writes
+from .ask import ask_all, ask_block, ask_check, ask_row
 from .build import Block, Dice, any_block, any_runs, column_file, frame, packed, runs, with_index
 from .files import DIFFERENCES, FRAME, PACKED, RUNS
-from .stream import BLOCK_OUT, CHECK, ROW_LOOKUP, Question
+from .stream import BLOCK_OUT, CHECK, ROW_LOOKUP
 
 NO_BLOCKS = bytes.fromhex("01 00 00 00")
 SEVENS = bytes.fromhex("01 00 01 00  01 00 00 00 00 00 00 00  07 00 00 00 00 00 00 00")
 
 EDGE_WIDTHS = (0, 1, 63, 64)
 TOO_HIGH = (2**16, 2**26, 2**32, 2**32 + 1, 2**42, 2**54, 2**63, 2**64 - 1)
-
-
-# A question for each call.
-
-
-def ask_check(name, data):
-    return Question(CHECK, name, data)
-
-
-def ask_block(dice, name, data, block=0, room=1024):
-    return Question(BLOCK_OUT, f"{name}, block {block} into {room}", data, c=dice.bytes(8 * room), index=block)
-
-
-def ask_row(name, data, row=0):
-    return Question(ROW_LOOKUP, f"{name}, row {row}", data, index=row)
-
-
-def ask_all(dice, name, data, block=0, row=0):
-    """The three calls for one file."""
-    yield ask_check(name, data)
-    yield ask_block(dice, name, data, block)
-    yield ask_row(name, data, row)
 
 
 # Files that are read.
@@ -438,6 +418,7 @@ SECTIONS = (
     cuts,
     trailing,
     faults_together,
+    *sweep_writes.SECTIONS,
 )
 
 
@@ -535,3 +516,4 @@ def sample():
     for steps in sets_of_steps(BLOCK_OUT, 1):
         if ROOM in steps:
             yield faulty_question(BLOCK_OUT, steps, 1, room=3)
+    yield from sweep_writes.small_writes(Dice("sample of writes"))

@@ -1,8 +1,10 @@
-// The calls: what each takes, and how it is made. A call has a line in `takes` and a line in `call`.
+// The calls: what each takes, and how it is made. A call has a line in `takes`; one that reads a file has a line in `call`,
+// and the one that writes a file is made by `write`.
 use contents::FileAnswer;
 use files::Row;
 use stream::Head;
 use stream::Reply;
+use writer::Written;
 ghost use mathlib.Core.Path.{_≡_};
 ghost use Rattle.contents.specs.Answers.{numberOf, placeOf};
 ghost use Rattle.stream.specs.declared.Reply.the-variants.{Given};
@@ -27,6 +29,7 @@ fn takes(op: u8) -> Intake {
         16 => Intake::of(1, 0, 0, false),
         17 => Intake::of(1, 0, 8, true),
         18 => Intake::of(1, 0, 0, true),
+        19 => Intake::of(8, 0, 1, false),
         _ => Intake::of(0, 0, 0, false),
     }
 }
@@ -53,7 +56,13 @@ fn fits(n: usize, size: usize) -> bool {
     }
 }
 
-// Makes the call on the buffers that it takes. Where there is no such call, nothing is given back.
+// Whether the call writes a file. Then a are numbers and c are bytes, where a call that reads a file has bytes as a and
+// numbers as c.
+pub fn writes(op: u8) -> bool {
+    op == 19
+}
+
+// Makes the call that reads a file on the buffers that it takes. Where there is no such call, nothing is given back.
 pub fn call(head: Head, a: &[u8], c: &mut [u64]) -> Reply {
     let op = head.op;
     let index = head.index as usize;
@@ -63,6 +72,11 @@ pub fn call(head: Head, a: &[u8], c: &mut [u64]) -> Reply {
         18 => of_row(files::row_at(a, index)),
         _ => Reply::Unknown,
     }
+}
+
+// Makes the call that writes a file.
+pub fn write(values: &[u64], output: &mut [u8]) -> Reply {
+    of_written(writer::write(values, output))
 }
 
 // The reply of a call on a file. There is no count to give back as a reference yet.
@@ -80,4 +94,9 @@ fn reply(answer: FileAnswer, value: u64) -> Reply
 // Of a refused lookup the value is 0.
 fn of_row(row: Row) -> Reply {
     reply(row.answer(), row.value())
+}
+
+// Of a refused write the length is 0.
+fn of_written(written: Written) -> Reply {
+    reply(written.answer(), written.length() as u64)
 }

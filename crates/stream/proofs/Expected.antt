@@ -1,7 +1,8 @@
 -- A case comes to Same exactly where its call gave back what the head says and its buffers were left as expected.
 -- Assumes nothing.
 use mathlib.Core.Bool.{Bool, true, false}
-use mathlib.Core.Path.{_≡_, refl}
+use mathlib.Core.Path.{_≡_, refl, sym, _∙_}
+use mathlib.Core.List.{List, []}
 use native.Mathlib.Omega.{arith}
 use Prim.Native.Nat.{ℕ}
 use borrow.Author.Tests.{eqb-true, eq-eqb}
@@ -12,7 +13,8 @@ use Rattle.stream.specs.declared.Reply.{Reply}
 use Rattle.stream.specs.declared.Reply.the-variants.{Unknown, Given}
 use Rattle.stream.specs.declared.Step.{Step}
 use Rattle.stream.specs.declared.Step.the-variants.{Bad, Same, Differs}
-use Rattle.stream.specs.Expected.{GivenAsExpected, isAsExpected, stepOf}
+use Rattle.stream.specs.Expected.{Agree, GivenAsExpected, AsExpected, isAsExpected, stepOf}
+use Rattle.stream.proofs.Compared.{Exactly}
 
 bad : {X : Type 0} → Bad ≡ Same → X
 bad e = let z : _≡_ {A = ℕ} 0 1 = cc in absurd (omega arith)
@@ -51,3 +53,15 @@ module _ (head : Head) where
         eq-eqb reference (head .reference) (given .3),
         left,
       )
+
+  -- Where c is the only buffer that a call writes, a case is the same exactly where it is as expected, by a test of c that is exact.
+  pub judged : (reply : Reply) (c c′ : List ℕ) {step : Step} {buffers : Bool} {long long′ : Type 0}
+      → step ≡ stepOf head reply buffers
+      → Exactly buffers long long′ (Agree (head .«n_c») c c′)
+      → (step ≡ Same → AsExpected head reply c c′ [] []) × (long → long′ → AsExpected head reply c c′ [] [] → step ≡ Same)
+  judged reply c c′ {buffers = buffers} comes tests = (
+    (λ same.
+        let all = step-same reply buffers (sym comes ∙ same) in
+        (all .0, tests .0 (all .1) .2, λ k b. refl)),
+    (λ p q all. comes ∙ same-step reply buffers (all .0) (tests .1 p q (all .1))),
+  )

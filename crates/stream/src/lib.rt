@@ -188,6 +188,27 @@ pub fn same_words(words: &[u64], bytes: &[u8], n: usize) -> bool
     true
 }
 
+// Whether the first n bytes of both lists are the same; no, where there are not so many.
+pub fn same_bytes(one: &[u8], other: &[u8], n: usize) -> bool
+    ensures { λ r. ⌜ (r ≡ true → (n ≤ length (now (one .entry))) × (n ≤ length (now (other .entry))) × Agree n (now (one .entry)) (now (other .entry))) ⌝ }
+    ensures { λ r. ⌜ (n ≤ length (now (one .entry)) → n ≤ length (now (other .entry)) → Agree n (now (one .entry)) (now (other .entry)) → r ≡ true) ⌝ }
+{
+    if one.len() < n {
+        return false;
+    }
+    if other.len() < n {
+        return false;
+    }
+    let mut i = 0;
+    while i < n {
+        if one[i] != other[i] {
+            return false;
+        }
+        i += 1;
+    }
+    true
+}
+
 // How many cases were replayed, how many of them differ, and of the first that differs its number and its call.
 // The counts are modulo 2^64.
 pub struct Tally {

@@ -8,10 +8,10 @@ use Rattle.replay_files.proofs.replay.Statement.{statement}
 use Rattle.replay_files.proofs.replay.Tie as tie
 
 abbrev Inv-loop : tie.InvT-loop
-Inv-loop a₀ c₀ bytes₀ tally₀ turns₀ a c bytes tally turns = (length a ≡ length a₀) × (length c ≡ length c₀) × (length bytes ≡ length bytes₀)
+Inv-loop file₀ numbers₀ bytes₀ tally₀ turns₀ file numbers bytes tally turns = (length file ≡ length file₀) × (length numbers ≡ length numbers₀) × (length bytes ≡ length bytes₀)
 
 abbrev μ-loop : tie.MeasureT-loop
-μ-loop a₀ c₀ bytes₀ tally₀ turns₀ a c bytes tally turns = turns
+μ-loop file₀ numbers₀ bytes₀ tally₀ turns₀ file numbers bytes tally turns = turns
 
 new-requires : tie.Need-new-requires Inv-loop μ-loop
 new-requires c κs = tt

@@ -1,7 +1,6 @@
 -- `stream::same_words` meets its contract. The loop's invariant: the first i numbers are those of the bytes.
 -- Assumes nothing.
-use mathlib.Core.Path.{_≡_, refl, sym, _∙_}
-use mathlib.Core.Bool.{false≢true}
+use mathlib.Core.Path.{_≡_, sym, _∙_}
 use mathlib.Core.List.{List}
 use Prim.Native.Nat.{ℕ, _-_, _*_, _≤_, _<_, zero-le}
 use native.Mathlib.Omega.{arith}
@@ -12,6 +11,7 @@ use borrow.Author.Count.{below-none, below-more}
 use Rattle.places.proofs.Tabs.{getD-tab}
 use Rattle.little.specs.Little.{little, numbersOf}
 use Rattle.little.proofs.Little.{little-within}
+use Rattle.stream.proofs.Compared.{no, yes}
 use Rattle.stream.proofs.same_words.Statement.{statement}
 use Rattle.stream.proofs.same_words.Tie as tie
 
@@ -27,10 +27,10 @@ abbrev μ-loop : tie.MeasureT-loop
 μ-loop words bytes n i₀ i = n - i
 
 returns : tie.Need-returns Inv-loop μ-loop
-returns c = (λ h. absurd (false≢true h), λ w b a. absurd (omega arith))
+returns c = no (λ w b a. omega arith)
 
 returns-2 : tie.Need-returns-2 Inv-loop μ-loop
-returns-2 c = (λ h. absurd (false≢true h), λ w b a. absurd (omega arith))
+returns-2 c = no (λ w b a. omega arith)
 
 loop-holds : tie.Need-loop-holds Inv-loop μ-loop
 loop-holds c = (zero-le, below-none _)
@@ -53,7 +53,7 @@ read : (c : tie.After-word Inv-loop μ-loop)
 read c = c .word .ensures ∙ little-within _ _ 8 (omega arith)
 
 returns-3 : tie.Need-returns-3 Inv-loop μ-loop
-returns-3 c = (λ h. absurd (false≢true h), λ w b a. absurd (c .if3 .taken (a _ (omega arith) ∙ number-at _ _ _ (omega arith) ∙ sym (read (c .before)))))
+returns-3 c = no (λ w b a. c .if3 .taken (a _ (omega arith) ∙ number-at _ _ _ (omega arith) ∙ sym (read (c .before))))
 
 add-i : tie.Need-add-i Inv-loop μ-loop
 add-i c = search needs
@@ -66,14 +66,8 @@ loop-again c = (omega arith, below-more _ _ (c .before .before .before .before .
 
 returns-4 : tie.Need-returns-4 Inv-loop μ-loop
 returns-4 c =
-    let e : c .before .loop .i ≡ c .before .before .before .before .before .before .args .n = omega arith in (
-      (λ h. (
-        omega arith,
-        omega arith,
-        λ k b. c .before .loop .inv .1 k (omega arith) ∙ sym (number-at _ _ k b),
-      )),
-      (λ w b a. refl),
-    )
+    let e : c .before .loop .i ≡ c .before .before .before .before .before .before .args .n = omega arith in
+    yes (omega arith) (omega arith) (λ k b. c .before .loop .inv .1 k (omega arith) ∙ sym (number-at _ _ k b))
 
 pub same-words-spec : {M : Type 1} → statement M
 same-words-spec =
