@@ -50,7 +50,7 @@ module _ (values : List ℕ) (long : length values ≡ 1024) where
 
   -- What is measured.
   pub measured : (low high plain frame top steps : ℕ) → Elements t64 values → low ≡ lowestOf values → high ≡ highestOf values
-      → plain ≡ bits high → frame ≡ bits (high - low) → top ≡ highestOf (differences values) → steps ≡ bits top
+      → plain ≡ bits high → frame ≡ bits (high - low) → bits top ≡ widthOf (differences values) → steps ≡ bits top
       → record { low = low; plain = plain; frame = frame; steps = steps } ≡ measuresOf values
   unfolding measuresOf widthOf
   measured low high plain frame top steps fits el eh ep ef et es =
@@ -58,7 +58,7 @@ module _ (values : List ℕ) (long : length values ≡ 1024) where
         low = el j;
         plain = (ep ∙ ap bits eh) j;
         frame = (ef ∙ ap bits (ap₂ (λ a b. a - b) eh el ∙ sym (frame-highest values long fits))) j;
-        steps = (es ∙ ap bits et) j;
+        steps = (es ∙ et) j;
       }
 
 -- Three lists whose fronts the candidates were written over hold them there.

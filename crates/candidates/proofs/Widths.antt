@@ -2,13 +2,14 @@
 -- Assumes nothing.
 use mathlib.Core.List.{List, [], _∷_}
 use mathlib.Core.Logic.{_↔_}
-use mathlib.Core.Path.{_≡_, sym, ap, _∙_}
+use mathlib.Core.Path.{_≡_, refl, sym, ap, _∙_, subst}
 use Prim.Native.Nat.{ℕ, zero, suc, _+_, _-_, _%_, _^_, _≤_, _<_, min, zero-le, suc-le-suc}
 use native.Mathlib.Decide.{decLe}
-use native.Mathlib.Nat.{le-of-suc-le-suc, not-suc-le-zero, lt-of-lt-of-le, lt-of-le-of-lt, pow-suc, mod-eq-of-lt}
+use native.Mathlib.Nat.{le-of-suc-le-suc, not-suc-le-zero, lt-of-lt-of-le, lt-of-le-of-lt, pow-suc, mod-eq-of-lt, le-refl}
 use native.Mathlib.Numerals.{add-one}
 use native.Mathlib.Omega.{arith}
 use borrow.Author.Tests.{leb-true, leb-false, le-leb, lt-leb}
+use lib.Bits.{bitOr, or-lt, or-add-and, and-le-l, and-le-r}
 use lib.Count.{leadingZeros, leading-length}
 use lib.Dec.{leb}
 use lib.ListN.{length, getD, drop, drop-of-length-le}
@@ -17,6 +18,7 @@ use lib.Seq.{drop-cons}
 use Rattle.places.specs.Numbers.{Elements, plus, minus}
 use Rattle.places.specs.Sizes.{t64}
 use Rattle.places.specs.Tab.{tab}
+use Rattle.places.proofs.Digits.{elements-of}
 use Rattle.places.proofs.Tabs.{length-tab, getD-tab}
 use Rattle.deltas.specs.Deltas.{frameOf}
 use Rattle.deltas.proofs.Lanes.{minus-only}
@@ -155,3 +157,39 @@ frame-highest v long fits =
     minus-low : (a b : ℕ) → b ≤ a → a < 2 ^ 64 → minus t64 a b ≡ a - b
     minus-low a b h fits =
         sym (minus-only t64 a b (a - b) (omega arith) (omega arith) (ap (λ n. n % 2 ^ 64) (omega arith) ∙ mod-eq-of-lt fits))
+
+-- What the loop that joins the bits of all numbers keeps: what it has fits a width exactly when the numbers passed do.
+pub record Joined (xs : List ℕ) (any i : ℕ) : Type 0 where
+  pub within : i ≤ length xs
+  pub each : (w : ℕ) → any < 2 ^ w → (k : ℕ) → k < i → getD xs k 0 < 2 ^ w
+  pub all : (w : ℕ) → ((k : ℕ) → k < i → getD xs k 0 < 2 ^ w) → any < 2 ^ w
+
+pub joined-none : (xs : List ℕ) → Joined xs 0 0
+joined-none xs = record { within = omega arith; each = λ w h k b. absurd (not-suc-le-zero b); all = λ w h. pow-pos w }
+
+-- A number is at most the or with another.
+or-above : (a b : ℕ) → (a ≤ bitOr a b) × (b ≤ bitOr a b)
+or-above a b = (omega (arith, or-add-and a b, and-le-r a b), omega (arith, or-add-and a b, and-le-l a b))
+
+pub joined-next : {xs : List ℕ} {any i : ℕ} (next : ℕ) → Joined xs any i → i < length xs → next ≡ bitOr any (getD xs i 0) → Joined xs next (i + 1)
+joined-next {xs} {any} {i} next j h e = record {
+  within = omega arith;
+  each = λ w small k b.
+      elim (decLe i k) [
+        | yes last ↦
+            let z : k ≡ i = omega arith in
+            subst (λ n. getD xs n 0 < 2 ^ w) (sym z) (lt-of-le-of-lt (or-above any (getD xs i 0) .1) (subst (λ n. n < 2 ^ w) e small))
+        | no first ↦ j .each w (lt-of-le-of-lt (or-above any (getD xs i 0) .0) (subst (λ n. n < 2 ^ w) e small)) k (omega arith)
+      ];
+  all = λ w small.
+      subst (λ n. n < 2 ^ w) (sym e) (or-lt w any (getD xs i 0) (j .all w (λ k b. small k (omega arith))) (small i (omega arith)));
+}
+
+pub joined-all : {xs : List ℕ} {any i : ℕ} → Joined xs any i → any < 2 ^ 64 → length xs ≤ i → bits any ≡ widthOf xs
+joined-all {xs} {any} {i} j small h =
+    let most : i ≤ length xs = j .within in
+    let fits : Elements t64 xs = elements-of t64 (length xs) xs refl (λ k b. j .each 64 small k (omega arith)) in
+    let low : bits any ≤ widthOf xs =
+    bits-least any (widthOf xs) (j .all (widthOf xs) (λ k b. width-fits xs fits (widthOf xs) .0 (le-refl (widthOf xs)) k (omega arith))) in
+    let high : widthOf xs ≤ bits any = width-fits xs fits (bits any) .1 (λ k b. j .each (bits any) (bits-hold any small) k (omega arith)) in
+    omega arith

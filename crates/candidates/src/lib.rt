@@ -25,7 +25,7 @@ ghost use Rattle.little.specs.Little.{writeLeaves};
 ghost use Rattle.candidates.specs.Calls.{entryFor, laidOf, layLeaves, answerOf, entryLaid};
 ghost use Rattle.candidates.specs.Candidates.{packedEntry, baseOf, differences as differencesOf, chosen};
 ghost use Rattle.candidates.specs.InnerMeasures.{measuresOf, entryBy, shorterEntry, shorterPart, wordsBy};
-ghost use Rattle.candidates.specs.Widths.{bits, lowestOf};
+ghost use Rattle.candidates.specs.Widths.{bits, widthOf, lowestOf};
 
 // The entry of a block that was laid down, or the refusal.
 pub enum Laid {
@@ -61,6 +61,12 @@ struct Measures {
     plain: usize,
     frame: usize,
     steps: usize,
+}
+
+// The lowest and the highest number of a list. Of no numbers they are the highest and the lowest of 64 bits.
+struct Ends {
+    low: u64,
+    high: u64,
 }
 
 // The entry of the candidate that is chosen for a block; one of no kind where there are not 1,024 numbers.
@@ -101,47 +107,51 @@ fn measure(values: &[u64], differences: &mut [u64]) -> Measures
     ensures { λ r. ⌜ r ≡ measuresOf (now (values .entry)) ⌝ }
     ensures { λ _. ⌜ now (differences .exit) ≡ differencesOf (now (values .entry)) ⌝ }
 {
-    let low = lowest(values);
-    let high = highest(values);
+    let ends = ends_of(values);
     delta(values, &values[..16], differences);
     Measures {
-        low: low,
-        plain: width_of(high),
-        frame: width_of(high - low),
-        steps: width_of(highest(differences)),
+        low: ends.low,
+        plain: width_of(ends.high),
+        frame: width_of(ends.high - ends.low),
+        steps: width_of(any_bits(differences)),
     }
 }
 
-// The lowest of the numbers.
-fn lowest(numbers: &[u64]) -> u64
-    ensures { λ r. ⌜ r ≡ lowestOf (now (numbers .entry)) ⌝ }
+// The lowest and the highest of the numbers, in one walk.
+fn ends_of(numbers: &[u64]) -> Ends
+    ensures { λ r. ⌜ (r .low ≡ lowestOf (now (numbers .entry))) × (r .high ≡ highestOf (now (numbers .entry))) ⌝ }
 {
     let mut low: u64 = 18446744073709551615;
+    let mut high: u64 = 0;
     let mut i = 0;
     while i < numbers.len() {
         let number = numbers[i];
         if number < low {
             low = number;
         }
-        i += 1;
-    }
-    low
-}
-
-// The highest of the numbers; 0 where there is none.
-fn highest(numbers: &[u64]) -> u64
-    ensures { λ r. ⌜ r ≡ highestOf (now (numbers .entry)) ⌝ }
-{
-    let mut high: u64 = 0;
-    let mut i = 0;
-    while i < numbers.len() {
-        let number = numbers[i];
         if high < number {
             high = number;
         }
         i += 1;
     }
-    high
+    Ends {
+        low: low,
+        high: high,
+    }
+}
+
+// A number that has each bit which one of the numbers has, so it is as wide as the highest. Of the differences no more is needed than
+// their width, and to go over them so costs a fourth of the search for the highest.
+fn any_bits(numbers: &[u64]) -> u64
+    ensures { λ r. ⌜ bits r ≡ widthOf (now (numbers .entry)) ⌝ }
+{
+    let mut any: u64 = 0;
+    let mut i = 0;
+    while i < numbers.len() {
+        any = any | numbers[i];
+        i += 1;
+    }
+    any
 }
 
 // The least width that holds m.
