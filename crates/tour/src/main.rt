@@ -1,6 +1,9 @@
-// A tour in a screenful, for a person: a block is packed, a row is looked up, two calls are refused, and a width does damage that is too
-// narrow for its numbers. The program reads nothing. What it must write stands in crates/tour/stdout, worked out by hand from document 01.
+// A tour in a screenful, for a person: a block is packed, a row is looked up, two calls are refused, a width does damage that is too
+// narrow for its numbers, and a column file is written and read. The program reads nothing. What it must write stands in
+// crates/tour/stdout, worked out by hand from documents 01 and 02.
 use access::t8::Single;
+use contents::FileAnswer;
+use files::Row;
 use libc::STDOUT_FILENO;
 use places::Answer;
 
@@ -12,6 +15,7 @@ fn main() {
     show_lookup(&packed);
     show_list(&packed);
     show_widths();
+    show_file();
 }
 
 // The answer of pack, and the packed bytes of the first lane (P6).
@@ -98,6 +102,52 @@ fn framed_back(width: usize, x: u8, reference: u8, packed: &mut [u8]) -> u8 {
     deltas::t8::for_pack(width, &values, reference, packed);
     deltas::t8::unfor_pack(width, packed, reference, &mut back);
     back[0]
+}
+
+// A column file of one block. Of the three ways to write it the frame is the shortest: the numbers are at most 2 above the
+// smallest, so its width is 2 and its body 256 bytes, behind the 20 bytes of the contents.
+fn show_file() {
+    let mut values = sevens();
+    values[3] = 9;
+    let mut file = [77u8; 276];
+    let written = writer::write(&values, &mut file);
+    say(b"\nA column of 1024 path numbers, sevens but for a 9 in row 3, is written as a\n");
+    say(b"file. This is its length in bytes, and then the number of the check:\n");
+    line(b"  ", written.length() as u64, b" bytes of ", 276);
+    show_file_answer(files::check(&file));
+    say(b"A stub asks the file for row 3, and then for row 1024, which there is not:\n");
+    show_row(&file, 3);
+    show_row(&file, 1024);
+    say(b"With room for one byte less nothing is written, and the room holds 77 as before:\n");
+    show_short(&values);
+}
+
+fn sevens() -> [u64; 1024] {
+    [7; 1024]
+}
+
+fn show_row(file: &[u8; 276], row: usize) {
+    let found = files::row_at(file, row);
+    match found {
+        Row::Value(x) => line(b"  ", x, b" in row ", row as u64),
+        Row::Refused(answer) => show_file_answer(answer),
+    }
+}
+
+fn show_short(values: &[u64; 1024]) {
+    let mut room = [77u8; 275];
+    let written = writer::write(values, &mut room);
+    show_file_answer(written.answer());
+    line(b"  ", wide(room[0]), b" at ", 0);
+}
+
+fn show_file_answer(answer: FileAnswer) {
+    line(
+        b"  number ",
+        answer.number() as u64,
+        b", place ",
+        answer.place() as u64,
+    );
 }
 
 fn show_answer(answer: Answer) {
