@@ -5,7 +5,7 @@
 //     op        the call, numbered as in docs/CASES.md; 255 is a turn that makes no call
 //     t         the element size: 8, 16, 32 or 64
 //     width     the width, for the calls that take one
-//     start     the first value of the input block; for the calls on a column file see column_files
+//     start     the first value of the input block; for the calls on a column file see column_files and column_writes
 //     step      from each value to the next, modulo 256
 //     turns     how often to call again after the first call: three bytes, the lowest first
 //
@@ -14,9 +14,10 @@
 // and all that a call takes is known at run time only.
 //
 // Here the request is read and the line is printed. The modules t8, t16, t32 and t64 make the calls, bit_blocks those on bit blocks,
-// column_files those on column files, and element turns bytes into elements and these into numbers.
+// column_files and column_writes those on column files, and element turns bytes into elements and these into numbers.
 mod bit_blocks;
 mod column_files;
+mod column_writes;
 mod element;
 mod t16;
 mod t32;
@@ -92,6 +93,9 @@ fn run(request: Request) -> Outcome {
     }
     if op == 16 || op == 17 {
         return column_files::run(request);
+    }
+    if op == 19 {
+        return column_writes::run(request);
     }
     let t = request.t;
     match t {
