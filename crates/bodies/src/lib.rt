@@ -177,7 +177,7 @@ fn differences_through(
 }
 
 // The block of a body of run indices and n run values. Decode looks at the indices, and writes nothing where one is out of range. To
-// set an array for 1,024 values to zeros is a tenth of the work, so a few values have a smaller one.
+// set an array for 1,024 values to zeros is a sixth of the work, so a few values have a smaller one.
 fn runs_out(n: usize, body: &[u8], output: &mut [u64]) -> FileAnswer
     requires { ⌜ n ≤ 1024 ⌝ }
     requires { ⌜ length (now body) ≡ 2048 + 8 * n ⌝ }

@@ -141,7 +141,7 @@ fn ends_of(numbers: &[u64]) -> Ends
 }
 
 // A number that has each bit which one of the numbers has, so it is as wide as the highest. Of the differences no more is needed than
-// their width, and to go over them so costs a fourth of the search for the highest.
+// their width, and to go over them so costs an eighth of the search for the highest.
 fn any_bits(numbers: &[u64]) -> u64
     ensures { λ r. ⌜ bits r ≡ widthOf (now (numbers .entry)) ⌝ }
 {
