@@ -1,15 +1,17 @@
--- What the two tables give for a place is its lane and its row, so that the value of that row in that lane is the value at the place.
+-- What a lookup gives for a place is its lane and its row, so that the value of that row in that lane is the value at the place. And what
+-- the arithmetic of a place asks of an element size.
 -- Assumes nothing.
 use mathlib.Core.Path.{_≡_, sym, ap₂, subst, _∙_}
 use mathlib.Core.List.{List}
-use Prim.Native.Nat.{ℕ, _<_}
-use lib.ListN.{getD}
+use Prim.Native.Nat.{ℕ, _%_, _≤_, _<_}
+use native.Mathlib.Omega.{arith}
+use lib.ListN.{getD, List·getD-eq-default}
 use Rattle.places.specs.Numbers.{digit}
 use Rattle.places.specs.Places.{lane, row}
 use Rattle.places.specs.Sizes.{Size, lanes}
 use Rattle.places.specs.Tab.{tab}
-use Rattle.places.proofs.Places.{lane-lt, row-lt}
-use Rattle.places.proofs.Tabs.{getD-tab}
+use Rattle.places.proofs.Places.{each, size8, size16, size32, size64, lane-lt, row-lt}
+use Rattle.places.proofs.Tabs.{length-tab, getD-tab}
 use Rattle.packing.specs.Packed.{wordsNumber, valueAt}
 
 module _ {t : ℕ} (s : Size t) (i : ℕ) (h : i < 1024) (l r : ℕ) (el : l ≡ getD (tab 1024 (lane t)) i 0) (er : r ≡ getD (tab 1024 (row t)) i 0) where
@@ -25,3 +27,26 @@ module _ {t : ℕ} (s : Size t) (i : ℕ) (h : i < 1024) (l r : ℕ) (el : l ≡
   pub looked-value : (w : ℕ) (packed : List ℕ) → digit w (wordsNumber t w packed l) r ≡ valueAt t w packed i
   unfolding valueAt
   looked-value w packed = ap₂ (λ l r. digit w (wordsNumber t w packed l) r) is-lane is-row
+
+-- a rule's entry is what the rule gives, and past the block's end it is 0
+module _ (rule : ℕ → ℕ) (p : ℕ) where
+  pub by-rule : {r : ℕ} → p < 1024 → r ≡ rule p → r ≡ getD (tab 1024 rule) p 0
+  by-rule h e = e ∙ sym (getD-tab 1024 rule p 0 h)
+
+  pub past-end : 1024 ≤ p → 0 ≡ getD (tab 1024 rule) p 0
+  past-end h = sym (List·getD-eq-default (tab 1024 rule) 0 (omega (arith, length-tab 1024 rule)))
+
+-- that a number is an element size, for `search`
+pub ruleset sizes = (size8, size16, size32, size64)
+
+-- an element has a bit and a block has a lane
+pub some-bits : {t : ℕ} → Size t → 0 < t
+some-bits s = each (λ t. 0 < t) (omega arith) (omega arith) (omega arith) (omega arith) s
+
+pub some-lanes : {t : ℕ} → Size t → 0 < lanes t
+some-lanes s = each (λ t. 0 < lanes t) (omega arith) (omega arith) (omega arith) (omega arith) s
+
+-- the lanes of a block divide 128, so the lane is a part of what is left over of 128
+pub lane-within : {t : ℕ} → Size t → (p : ℕ) → lane t p ≤ p % 128
+unfolding lane
+lane-within s p = each (λ t. lane t p ≤ p % 128) (omega arith) (omega arith) (omega arith) (omega arith) s

@@ -1,5 +1,6 @@
 pub mod Calls
 pub mod InnerEntries
+pub mod InnerLookups
 pub mod t16
 pub mod t32
 pub mod t64

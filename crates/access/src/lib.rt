@@ -1,16 +1,19 @@
 // Access to a packed block of 1,024 values: at one place, and by a list of places. From the crate's src/bitpacking.rs. The width
 // is given at the call.
 //
-// What is the same at all four element sizes stands here: the search of a list for an index past the block's end, and an
-// entry's refusal as the list's. Each size has a module of its own.
+// What is the same at all four element sizes stands here: the search of a list for an index past the block's end, an entry's
+// refusal as the list's, and the rules for the lane and the row of a place. Each size has a module of its own.
 pub mod t16;
 pub mod t32;
 pub mod t64;
 pub mod t8;
 
 use places::Answer;
+use places::order;
 ghost use mathlib.Core.Path.{_≡_};
+ghost use Rattle.places.specs.Places.{lane, row};
 ghost use Rattle.places.specs.Search.{firstBeyond};
+ghost use Rattle.places.specs.Sizes.{Size};
 ghost use Rattle.access.specs.InnerEntries.{atEntry};
 
 // The lowest place of a list whose index is 1,024 or more; the list's length where there is none.
@@ -38,4 +41,21 @@ fn at_entry(answer: Answer, i: usize) -> Answer
         return Answer::Index(i);
     }
     answer
+}
+
+// The lane of a place by arithmetic, at t bits an element.
+fn lane_by_rule(t: usize, place: usize) -> usize
+    requires { ⌜ Size t ⌝ }
+    ensures { λ r. ⌜ r ≡ lane t place ⌝ }
+{
+    place % (1024 / t)
+}
+
+// The row of a place by arithmetic, at t bits an element. The order list is a `match`, so there is no table here.
+fn row_by_rule(t: usize, place: usize) -> usize
+    requires { ⌜ Size t ⌝ }
+    ensures { λ r. ⌜ r ≡ row t place ⌝ }
+{
+    let l = lane_by_rule(t, place);
+    order((place % 128 - l) / 16) * 8 + place / 128
 }

@@ -1,12 +1,18 @@
 // Written by tools/sizes from the text of size 64: edit that one, and run tools/sizes.
 // Access to packed blocks of u16 values.
+mod lookups;
+
 use crate::at_entry;
 use crate::first_beyond;
+use lookups::Lanes;
+use lookups::Rows;
+use lookups::lane_at;
+use lookups::lane_of;
+use lookups::lane_table;
+use lookups::row_at_place;
+use lookups::row_of;
+use lookups::row_table;
 use places::Answer;
-use places::t16::lane_of;
-use places::t16::lane_table;
-use places::t16::row_of;
-use places::t16::row_table;
 ghost use mathlib.Core.Path.{_≡_};
 ghost use mathlib.Core.List.{[], _∷_};
 ghost use Prim.Native.Nat.{ℕ, _*_, _/_, _%_, _^_, _≤_, _<_};
@@ -15,9 +21,9 @@ ghost use Rattle.places.specs.declared.Answer.the-variants.{Done};
 ghost use Rattle.places.specs.Numbers.{digit};
 ghost use Rattle.places.specs.Places.{lane, row};
 ghost use Rattle.places.specs.Sizes.{t16, lanes};
-ghost use Rattle.places.specs.Tab.{tab};
 ghost use Rattle.places.specs.Takes.{an-index, answerFor};
 ghost use Rattle.packing.specs.Packed.{wordsNumber, valueAt};
+ghost use Rattle.access.specs.InnerLookups.{lent};
 ghost use Rattle.access.specs.Calls.{single, singleOf, listTakes, listOf, listLeaves};
 ghost use Rattle.access.specs.t16.{answerOf, valueOf};
 
@@ -55,7 +61,7 @@ impl Single {
     }
 }
 
-// Unpacks the value at one place of a packed block. The two tables are read where they stand.
+// Unpacks the value at one place of a packed block.
 pub fn unpack_single(width: usize, packed: &[u16], index: usize) -> Single
     ensures { λ r. ⌜ r ≡ singleOf Single.Value Single.Refused t16 width (now (packed .entry)) index ⌝ }
 {
@@ -93,7 +99,7 @@ pub fn unpack_indices(width: usize, packed: &[u16], indices: &[usize], output: &
 }
 
 // Each entry is the single answer taken apart: its value, or its refusal, which is then the list's at that entry. After the
-// search no entry is refused. The two tables are made once for the whole list.
+// search no entry is refused. What the lookups are lent is made once for the whole list.
 fn look_up_all(width: usize, packed: &[u16], indices: &[usize], output: &mut [u16]) -> Answer
     requires { ⌜ width ≤ t16 ⌝ }
     requires { ⌜ length (now packed) ≡ lanes t16 * width ⌝ }
@@ -116,25 +122,25 @@ fn look_up_all(width: usize, packed: &[u16], indices: &[usize], output: &mut [u1
     Answer::Done
 }
 
-// The value at one place, with the tables lent.
+// The value at one place, with what its lane and its row are looked up in.
 fn look_up(
     width: usize,
     packed: &[u16],
     index: usize,
-    lane_by_place: &[u8; 1024],
-    row_by_place: &[u8; 1024],
+    lane_by_place: &Lanes,
+    row_by_place: &Rows,
 ) -> Single
     requires { ⌜ width ≤ t16 ⌝ }
     requires { ⌜ length (now packed) ≡ lanes t16 * width ⌝ }
-    requires { ⌜ now «lane_by_place» ≡ tab 1024 (lane t16) ⌝ }
-    requires { ⌜ now «row_by_place» ≡ tab 1024 (row t16) ⌝ }
+    requires { ⌜ now «lane_by_place» ≡ lent t16 (lane t16) ⌝ }
+    requires { ⌜ now «row_by_place» ≡ lent t16 (row t16) ⌝ }
     ensures { λ r. ⌜ r ≡ single Single.Value Single.Refused (answerFor (an-index index ∷ [])) (valueAt t16 width (now (packed .entry)) index) ⌝ }
 {
     if 1024 <= index {
         return Single::Refused(Answer::Index(0));
     }
-    let l = wide(lane_by_place[index]);
-    let r = wide(row_by_place[index]);
+    let l = lane_at(lane_by_place, index);
+    let r = row_at_place(row_by_place, index);
     Single::Value(read(width, packed, l, r))
 }
 
@@ -191,10 +197,4 @@ fn cut(x: u16, w: u8) -> u16
     ensures { λ r. ⌜ r ≡ x % 2 ^ w ⌝ }
 {
     x % (1u16 << w)
-}
-
-fn wide(x: u8) -> usize
-    ensures { λ r. ⌜ r ≡ x ⌝ }
-{
-    x as usize
 }

@@ -1,8 +1,7 @@
 // Places, lanes and rows of a block of 1,024 values, and the value transpose.
 //
-// From the crate's src/lib.rs (the order list, T and LANES), src/transpose.rs, the function index of
-// src/macros.rs, and the two tables of src/bitpacking.rs. What is the same at all four element sizes
-// stands here; each size has a module of its own.
+// From the crate's src/lib.rs (the order list, T and LANES), src/transpose.rs, and the function index of
+// src/macros.rs. What is the same at all four element sizes stands here; each size has a module of its own.
 
 pub mod t16;
 pub mod t32;

@@ -8,7 +8,7 @@ use libc::STDOUT_FILENO;
 use places::Answer;
 
 fn main() {
-    let rows = places::t8::row_table();
+    let rows = each_its_row();
     let mut packed = [0u8; 384];
     let answer = packing::t8::pack(3, &rows, &mut packed);
     show_block(answer, &packed);
@@ -16,6 +16,15 @@ fn main() {
     show_list(&packed);
     show_widths();
     show_file();
+}
+
+// The block in which each value is the number of its row: a block of u8 values has 128 lanes, so each 128 places are a row.
+fn each_its_row() -> [u8; 1024] {
+    let mut rows = [0u8; 1024];
+    for i in 0..1024 {
+        rows[i] = (i / 128) as u8;
+    }
+    rows
 }
 
 // The answer of pack, and the packed bytes of the first lane (P6).
