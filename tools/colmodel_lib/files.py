@@ -1,4 +1,4 @@
-"""The model of the reader: document 02, Item 1, from its text alone.
+"""The model of the reader: document 02, Items 1 and 5, from their text alone.
 
 A column file, little-endian throughout:
 
@@ -13,6 +13,9 @@ A column file, little-endian throughout:
 
 The tests stand in Item 1's own order, which is not the order of their numbers: TESTS has those of the file. Before
 them stands 2, the length of the block output, and after them 12, a row or block number that is too high.
+
+By Item 5 a row lookup also says how many packed words the value's bits stand in, for blocks of kinds 0 and 1. For
+kinds 2 and 3 it gives no count, and neither does a refused call.
 """
 import functools
 import struct
@@ -207,7 +210,14 @@ def values_of(data, block):
     return block_values(entry_at(data, block), data[start:end])
 
 
-# The three calls. The second thing that two of them give is None where the call is refused.
+def words_read(entry, place):
+    """How many packed words a lookup at a place of a block reads; None where the block's kind gives no count."""
+    if entry.kind not in (PACKED, FRAME):
+        return None
+    return layout.words_read(entry.width, layout.ROW_AT[place])
+
+
+# The three calls. What two of them give beside the answer is None where the call is refused.
 
 
 def check(data):
@@ -232,10 +242,12 @@ def block_out(data, block, room):
 
 
 def row_lookup(data, row):
-    """The value at a file row: place row mod 1,024 of block row / 1,024. The answer and the value."""
+    """The value at a file row: place row mod 1,024 of block row / 1,024. The answer, the value and the count."""
     answer = check(data)
     if answer.number:
-        return answer, None
+        return answer, None, None
     if row // 1024 >= count_of(data):
-        return Answer(12, 0, f"row {row} is asked for, and the file has {1024 * count_of(data)} rows"), None
-    return ACCEPTED, values_of(data, row // 1024)[row % 1024]
+        answer = Answer(12, 0, f"row {row} is asked for, and the file has {1024 * count_of(data)} rows")
+        return answer, None, None
+    block, place = divmod(row, 1024)
+    return ACCEPTED, values_of(data, block)[place], words_read(entry_at(data, block), place)

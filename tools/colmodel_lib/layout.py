@@ -3,7 +3,8 @@
 A lane is one whole number, the sum of its word k times 2^(64·k). Its digits to the base 2^W are the lane's values by
 rows. Nothing here shifts or masks, and nothing comes from the port.
 
-The model of the reader needs unpack, undelta and decode. That of the writer needs pack and delta, and so do the cases.
+The model of the reader needs unpack, undelta and decode, and the count of words. That of the writer needs pack and
+delta, and so do the cases.
 """
 
 T = 64
@@ -17,6 +18,19 @@ def place(row, lane):
 
 
 PLACES = [[place(row, lane) for row in range(T)] for lane in range(LANES)]  # of each lane, by rows
+ROW_AT = {p: row for rows in PLACES for row, p in enumerate(rows)}  # of each place
+
+
+def words_read(width, row):
+    """Item 5's count: how many packed words the bits of a value in that row stand in."""
+    if width == 0:
+        return 0
+    return 1 if row * width % T + width <= T else 2
+
+
+def rows_in_two(width):
+    """The rows whose bits stand in two words; at a width that divides 64 there are none."""
+    return [row for row in range(T) if words_read(width, row) == 2]
 
 
 def pack(width, values):

@@ -10,13 +10,20 @@ from . import build, check_writes, files, layout, mixed, mixed_writes, sweep
 from .build import Dice, column_file
 from .check_writes import unless
 from .files import DIFFERENCES, FRAME, PACKED, RUNS
-from .stream import BLOCK_OUT, CHECK, ROW_LOOKUP, WRITE, Outcome, Question, answered, cases, record, replay
+from .stream import BLOCK_OUT, CHECK, NO_COUNT, ROW_LOOKUP, WRITE, Outcome, Question
+from .stream import answered, cases, record, replay
 
 GIVEN = {  # The numbers that each call can give, from Items 1 and 3.
     CHECK: {0, 8, 9, 10, 11, 13},
     BLOCK_OUT: {0, 2, 8, 9, 10, 11, 12, 13},
     ROW_LOOKUP: {0, 8, 9, 10, 11, 12, 13},
     WRITE: {0, 2, 14},
+}
+COUNTS = {  # The counts of words that a row lookup can give in each kind of block, from Item 5.
+    PACKED: {0, 1, 2},
+    FRAME: {0, 1, 2},
+    DIFFERENCES: {NO_COUNT},
+    RUNS: {NO_COUNT},
 }
 OF_READER = (CHECK, BLOCK_OUT, ROW_LOOKUP)
 
@@ -36,7 +43,7 @@ def worked_files():
     yield from unless(files.row_lookup(sweep.NO_BLOCKS, 0)[0][:2] == (12, 0), "row 0 of no blocks is not 12")
     yield from unless(files.check(sweep.SEVENS) == files.ACCEPTED, "the file of sevens is not accepted")
     yield from unless(block_of(sevens) == [7] * 1024, "the file of sevens has other values")
-    yield from unless(files.row_lookup(sweep.SEVENS, 1023)[1] == 7, "row 1023 of the sevens is not 7")
+    yield from unless(files.row_lookup(sweep.SEVENS, 1023)[1:] == (7, 0), "row 1023 of the sevens is another")
     yield from unless(files.row_lookup(sweep.SEVENS, 1024)[0][:2] == (12, 0), "row 1024 of the sevens is not 12")
 
 
@@ -69,8 +76,8 @@ def packed_cases():
     yield from unless(block_of(build.packed(3, body)) == values, "P6: the packed body has other values")
     yield from unless(build.packed_bytes(3, values) == body, "P6: packing gives another body")
     data = column_file([build.packed(3, body)])
-    yield from unless(files.row_lookup(data, 256)[1] == 2, "P7: row 256 is not 2")
-    yield from unless(files.row_lookup(data, 672)[1] == 5, "P7: row 672, in two words, is not 5")
+    yield from unless(files.row_lookup(data, 256)[1:] == (2, 1), "P7: row 256 is not 2, from one word")
+    yield from unless(files.row_lookup(data, 672)[1:] == (5, 2), "P7: row 672 is not 5, from two words")
     body = lane_body(6, 3, sum(row * 64**row for row in range(64)).to_bytes(48, "little"))
     values = by_rows(3, lambda row: row)
     yield from unless(block_of(build.packed(6, body)) == values, "width 6: rows do not hold their own number")
@@ -121,6 +128,50 @@ def round_trips():
     yield from unless(layout.undelta(layout.delta(values, base), base) == values, "differences come back changed")
 
 
+def words_by_bits(width, row):
+    """The different words in which the bits of a row stand: bit b of row r is bit width·r + b of the lane's number."""
+    return {(width * row + bit) // 64 for bit in range(width)}
+
+
+def words_by_packing(width, first):
+    """For the 16 rows from the first on the words that hold them: in lane l only row first + l is not 0, but ones."""
+    block = [0] * 1024
+    for lane in range(16):
+        block[layout.place(first + lane, lane)] = 2**64 - 1
+    packed = layout.pack(width, block)
+    return [{k for k in range(width) if packed[16 * k + lane]} for lane in range(16)]
+
+
+def counts_of_words():
+    """Item 5's count is the number of words that the bits stand in, at every width and row."""
+    for width in range(65):
+        packed = [found for first in (0, 16, 32, 48) for found in words_by_packing(width, first)]
+        for row in range(64):
+            count, found = layout.words_read(width, row), words_by_bits(width, row)
+            yield from unless(count == len(found), f"width {width}, row {row}: the count is {count}, the words {found}")
+            yield from unless(packed[row] == found, f"width {width}, row {row}: packing uses the words {packed[row]}")
+
+
+def counts_by_kind():
+    """The same body of width 3 in kinds 0, 1 and 2, and a run block: who gives a count. Row 672 stands in two words."""
+    body, base = bytes(384), bytes(128)
+    no_count = 2**64 - 1
+    for name, block, row, expected in (
+        ("kind 0", build.packed(3, body), 672, 2),
+        ("kind 0", build.packed(3, body), 1023, 1),
+        ("kind 1", build.frame(3, body, 5), 672, 2),
+        ("kind 1", build.frame(3, body, 5), 0, 1),
+        ("kind 1 at width 0", build.frame(0, b"", 5), 672, 0),
+        ("kind 2", build.differences(3, base, body), 672, no_count),
+        ("kind 2 at width 0", build.differences(0, base, b""), 672, no_count),
+        ("kind 3", build.runs([0] * 1024, [5]), 672, no_count),
+        ("a row that is not there", build.packed(3, body), 1024, no_count),
+        ("a bad entry", build.packed(3, body).but(zero=1), 672, no_count),
+    ):
+        found = answered(sweep.ask_row(name, column_file([block]), row)).reference
+        yield from unless(found == expected, f"{name}, row {row}: the count is {found}, and not {expected}")
+
+
 def expected_of(steps, way):
     """The number and the place that the first of these steps gives, from Item 1's text."""
     place = {sweep.ENTRY_WRONG: sweep.WAYS[way]["entry"], sweep.RUNS_WRONG: sweep.WAYS[way]["block"]}
@@ -152,9 +203,10 @@ def order_of_refusals(asked):
 
 
 def what_is_reached(name, questions):
-    """Every number that a call can give, and no other; every kind is read and written; outputs change and stay."""
+    """Every number that a call can give, and no other; every kind is read and written; every count that a kind can
+    give is given; outputs change and stay."""
     reached = {op: set() for op in GIVEN}
-    kinds, written = set(), set()
+    kinds, written, counts = set(), set(), {kind: set() for kind in COUNTS}
     for question in questions:
         outcome = answered(question)
         reached[question.op].add(outcome.number)
@@ -162,13 +214,19 @@ def what_is_reached(name, questions):
             entry = files.entry_at(question.a, question.index)
             kinds.add((entry.kind, entry.width if entry.kind != RUNS else entry.length))
             yield from unless(outcome.c != question.c, f"{name}, {question.name}: the output would not change")
+        if question.op == ROW_LOOKUP and not outcome.number:
+            counts[files.entry_at(question.a, question.index // 1024).kind].add(outcome.reference)
         if question.op == WRITE and not outcome.number:
             written |= {entry.kind for entry in files.entries_of(outcome.c)}
             yield from unless(outcome.c != question.c, f"{name}, {question.name}: the output would not change")
         if outcome.number:
             yield from unless(outcome.c == question.c, f"{name}, {question.name}: a refusal changes the output")
             yield from unless(outcome.value == 0, f"{name}, {question.name}: a refusal gives a value")
+        if outcome.number or question.op != ROW_LOOKUP:
+            none = NO_COUNT if question.op == ROW_LOOKUP else 0
+            yield from unless(outcome.reference == none, f"{name}, {question.name}: the reference is another")
     yield from unless(reached == GIVEN, f"{name}: the numbers given are {reached}")
+    yield from unless(counts == COUNTS, f"{name}: the counts of words by kind are {counts}")
     yield from unless(written == {PACKED, FRAME, DIFFERENCES}, f"{name}: the kinds written are {written}")
     edges = {(kind, width) for kind in (PACKED, FRAME, DIFFERENCES) for width in sweep.EDGE_WIDTHS}
     edges |= {(RUNS, 2048 + 8), (RUNS, 2048 + 8 * 1024)}
@@ -184,6 +242,11 @@ def bytes_to_spoil(question, outcome):
     return sorted(at & set(range(len(outcome.c))))
 
 
+def wrong_counts(count):
+    """Counts that somebody might give in the place of this one: the next, the one before, and none or 0."""
+    return sorted({(count + 1) % 2**64, (count - 1) % 2**64, 0, NO_COUNT} - {count})
+
+
 def spoiled(questions):
     """The cases with one part of what is expected changed, each part in turn; a replay has to find every one."""
     for question in questions:
@@ -192,6 +255,7 @@ def spoiled(questions):
         yield question, outcome._replace(place=outcome.place + 1)
         if question.op == ROW_LOOKUP:
             yield question, outcome._replace(value=(outcome.value + 2**63) % 2**64)
+            yield from ((question, outcome._replace(reference=count)) for count in wrong_counts(outcome.reference))
         if question.op == WRITE:
             yield question, outcome._replace(value=outcome.value + 1)
         for at in bytes_to_spoil(question, outcome):
@@ -217,6 +281,10 @@ def streams(questions):
     head = struct.pack("<BBHB3xQQQQ4I", ROW_LOOKUP, 64, 0, 0, 0, 7, 0, 1023, len(sweep.SEVENS), 0, 0, 0)
     question = sweep.ask_row("the sevens", sweep.SEVENS, 1023)
     yield from unless(record(question, Outcome(0, 0, b"", 7)) == head + sweep.SEVENS, "a record has another form")
+    head = struct.pack("<BBHB3xQQQQ4I", ROW_LOOKUP, 64, 0, 12, 0, 0, 2**64 - 1, 1024, len(sweep.SEVENS), 0, 0, 0)
+    question = sweep.ask_row("the sevens", sweep.SEVENS, 1024)
+    same = record(question, answered(question)) == head + sweep.SEVENS
+    yield from unless(same, "a record of a refused row lookup has another form")
     head = struct.pack("<BBHB3xQQQQ4I", WRITE, 64, 0, 0, 0, 20, 0, 0, 1024, 0, 23, 0)
     numbers, before, after = struct.pack("<1024Q", *[7] * 1024), b"\xa5" * 23, sweep.SEVENS + b"\xa5" * 3
     question = Question(WRITE, "the sevens", numbers, c=before)
@@ -235,6 +303,8 @@ def failures():
     yield from difference_cases()
     yield from run_cases()
     yield from round_trips()
+    yield from counts_of_words()
+    yield from counts_by_kind()
     yield from order_of_refusals(set(swept))
     yield from what_is_reached("sweep", swept)
     yield from what_is_reached("sample", sample)

@@ -3,7 +3,7 @@
 Of a write it shows the three candidates of each block, and the file that the model writes.
 """
 from . import files, writer
-from .stream import WRITE
+from .stream import NO_COUNT, ROW_LOOKUP, WRITE
 
 
 def plural(n, word):
@@ -83,10 +83,15 @@ def block_lines(data, block):
     yield answer_line(answer)
 
 
+def count_words(count):
+    """How many packed words a lookup read."""
+    return "no count of words" if count in (None, NO_COUNT) else f"{plural(count, 'word')} read"
+
+
 def row_lines(data, row):
-    answer, value = files.row_lookup(data, row)
+    answer, value, count = files.row_lookup(data, row)
     if value is not None:
-        yield f"row {row}: {value}"
+        yield f"row {row}: {value}, {count_words(count)}"
     yield answer_line(answer)
 
 
@@ -115,16 +120,24 @@ def output_words(expected, answered):
     return f"another from byte {next(i for i, (a, b) in enumerate(zip(answered, expected)) if a != b)} on"
 
 
+def outcome_words(question, outcome):
+    """Number, place and value, the count of words of a row lookup, and a reference that no other call should have."""
+    said = f"number {outcome.number}, place {outcome.place}, value {outcome.value}"
+    if question.op == ROW_LOOKUP:
+        return f"{said}, {count_words(outcome.reference)}"
+    return f"{said}, reference {outcome.reference}" if outcome.reference else said
+
+
 def case_lines(i, question, expected, answered):
     """A case of a stream, what is expected of it, what the model gives, and its file."""
     writes = question.op == WRITE
     room = plural(len(question.c), "byte") if writes else plural(len(question.c) // 8, "place")
     given = plural(len(question.a) // 8, "number") if writes else f"index {question.index}"
     yield f"case {i}: call {question.op}, {given}, output of {room}"
-    yield f"expected: number {expected.number}, place {expected.place}, value {expected.value}"
+    yield f"expected: {outcome_words(question, expected)}"
     if answered == expected:
         yield "the model gives the same"
     else:
-        said = f"number {answered.number}, place {answered.place}, value {answered.value}"
+        said = outcome_words(question, answered)
         yield f"the model: {said}, output {output_words(expected.c, answered.c)}"
     yield from write_lines(files.words_of(question.a), len(question.c)) if writes else lines(question.a)

@@ -12,6 +12,7 @@ HEAD = struct.Struct("<BBHB3xQQQQ4I")
 CHECK, BLOCK_OUT, ROW_LOOKUP, WRITE = 16, 17, 18, 19
 ELEMENTS = {CHECK: (1, 1, 8), BLOCK_OUT: (1, 1, 8), ROW_LOOKUP: (1, 1, 8), WRITE: (8, 1, 1)}
 MOST_BYTES = 2_200_000  # of one buffer in a stream
+NO_COUNT = 2**64 - 1  # in the reference of a row lookup that says no count of words
 
 
 class BadStream(Exception):
@@ -28,7 +29,7 @@ class Question(NamedTuple):
 
 
 class Outcome(NamedTuple):
-    """What the call gives and leaves. The reference is there for the count of words that Item 5 brings."""
+    """What the call gives and leaves. The reference is a row lookup's count of words, and 0 in the other calls."""
 
     number: int
     place: int
@@ -52,8 +53,9 @@ def to_block_out(q):
 
 
 def to_row_lookup(q):
-    answer, value = files.row_lookup(q.a, q.index)
-    return refused(answer, q) if answer.number else Outcome(0, 0, q.c, value)
+    answer, value, count = files.row_lookup(q.a, q.index)
+    said = NO_COUNT if count is None else count
+    return Outcome(answer.number, answer.place, q.c, 0 if answer.number else value, said)
 
 
 def to_write(q):

@@ -1,10 +1,11 @@
-"""The deliberate cases of Item 1: every kind and width, every fault, and every two faults whose order can be seen.
+"""The deliberate cases of Items 1 and 5: every kind and width, every count of words, every fault, and every two faults
+whose order can be seen.
 
 Each section is a function that gives questions. What the answer is comes from the model and is never written here; the
 one exception is the order of the refusals, which stands again in STEPS, so that the selfcheck can hold the model to it.
 The cases of Item 3 come after these, from sweep_writes.py.
 """
-from . import build, files, sweep_writes
+from . import build, files, layout, sweep_writes
 from .ask import ask_all, ask_block, ask_check, ask_row
 from .build import Block, Dice, any_block, any_runs, column_file, frame, packed, runs, with_index
 from .files import DIFFERENCES, FRAME, PACKED, RUNS
@@ -72,6 +73,22 @@ def every_row(dice):
     for width, lane in ((63, 0), (33, 15), (7, 9)):
         data = column_file([any_block(dice, FRAME, width)])
         yield from (ask_row(f"kind 1 width {width}", data, lane + 16 * i) for i in range(64))
+
+
+def row_in_two(dice, width, which):
+    """A file row of block 0 whose bits stand in two packed words: the first or the last such row of any lane."""
+    return layout.place(layout.rows_in_two(width)[which], dice.below(layout.LANES))
+
+
+def counts_of_words(dice):
+    """At each width the first row and the last that stand in two words, where there are such. Kind 2, which packs just
+    so and gives no count, is asked for the same rows."""
+    for kind in (PACKED, FRAME, DIFFERENCES):
+        for width in range(65):
+            data = column_file([any_block(dice, kind, width)])
+            if layout.rows_in_two(width):
+                for which in (0, -1):
+                    yield ask_row(f"kind {kind} width {width}, in two words", data, row_in_two(dice, width, which))
 
 
 def run_blocks(dice):
@@ -406,6 +423,7 @@ SECTIONS = (
     edge_bodies,
     references,
     every_row,
+    counts_of_words,
     run_blocks,
     crossing_rows,
     limits,
@@ -473,6 +491,14 @@ def small_heads(dice):
         yield ask_check(f"N {count} and one entry", column_file([frame(0, b"", 1)], 1, count))
 
 
+def small_counts(dice):
+    """Rows in two words, at a narrow width, since a file of a wide block would take much of the sample."""
+    for kind in (PACKED, FRAME, DIFFERENCES):
+        data = column_file([any_block(dice, kind, 3)])
+        for which in (0, -1):
+            yield ask_row(f"kind {kind} width 3, in two words", data, row_in_two(dice, 3, which))
+
+
 def small_crossing(dice):
     blocks = mixed_blocks(dice)
     data = column_file(blocks)
@@ -516,4 +542,5 @@ def sample():
     for steps in sets_of_steps(BLOCK_OUT, 1):
         if ROOM in steps:
             yield faulty_question(BLOCK_OUT, steps, 1, room=3)
+    yield from small_counts(Dice("sample of counts"))
     yield from sweep_writes.small_writes(Dice("sample of writes"))

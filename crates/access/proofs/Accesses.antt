@@ -1,7 +1,7 @@
 -- The sentences of document 01, "The packed layout", about access, over the element size and the width: single access as unpack at its
 -- place, and list access as single access entry by entry. Each law speaks of what the calls give and leave.
 -- Assumes nothing.
-use mathlib.Core.Path.{_≡_, refl, sym, ap, _∙_}
+use mathlib.Core.Path.{_≡_, refl, sym, ap, ap₂, _∙_}
 use mathlib.Core.Bool.{Bool, true, false}
 use mathlib.Core.List.{List}
 use Prim.Native.Nat.{ℕ, _*_, _≤_, _<_}
@@ -18,19 +18,50 @@ use Rattle.packing.specs.Calls.{unpackLeaves}
 use Rattle.packing.specs.Packed.{unpackOf, valueAt}
 use Rattle.packing.proofs.Answers.{good-block}
 use Rattle.packing.proofs.Rounds.{unpack-at}
-use Rattle.access.specs.Calls.{single, singleTakes, singleOf, listTakes, listOf, listLeaves}
+use Rattle.access.specs.Calls.{single, singleTakes, singleOf, listTakes, listOf, listed, listGives, answerOf, wordsOf, listLeaves}
+use Rattle.access.specs.Counts.{countAt, noCount, countsOf, listWords}
 use Rattle.access.proofs.Answers.{single-good, index-in, list-good, list-bad-index, indices-good}
+
+-- What a list gives stands for the answer of the tests, and for the words where it is done.
+module _ (t w : ℕ) (packed indices output : List ℕ) where
+  pub list-answers : answerOf (listGives t w packed indices output) ≡ answerFor (listTakes t w packed indices output)
+  unfolding listGives
+  list-answers = reads (answerFor (listTakes t w packed indices output))
+    where
+      reads : (a : Answer) → answerOf (listed a (listWords t w indices)) ≡ a
+      reads Done = refl
+      reads Width = refl
+      reads Block = refl
+      reads Packed = refl
+      reads Base = refl
+      reads Lists = refl
+      reads (Index p) = refl
+      reads (Dictionary p) = refl
+
+  pub list-counts : wordsOf (listGives t w packed indices output) ≡ left (answerFor (listTakes t w packed indices output)) (listWords t w indices) 0
+  unfolding listGives
+  list-counts = reads (answerFor (listTakes t w packed indices output))
+    where
+      reads : (a : Answer) → wordsOf (listed a (listWords t w indices)) ≡ left a (listWords t w indices) 0
+      reads Done = refl
+      reads Width = refl
+      reads Block = refl
+      reads Packed = refl
+      reads Base = refl
+      reads Lists = refl
+      reads (Index p) = refl
+      reads (Dictionary p) = refl
 
 -- What an enum's two cases stand for, read back off the single answer, is the answer of the tests, and the value at the index where the call is
 -- done.
-module _ {S : Type 0} (value : ℕ → S) (refused : Answer → S) (t w : ℕ) (packed : List ℕ) (index : ℕ) where
-  pub single-answers : (answer : S → Answer) → ((v : ℕ) → answer (value v) ≡ Done) → ((a : Answer) → answer (refused a) ≡ a)
+module _ {S : Type 0} (value : ℕ → ℕ → S) (refused : Answer → S) (t w : ℕ) (packed : List ℕ) (index : ℕ) where
+  pub single-answers : (answer : S → Answer) → ((v n : ℕ) → answer (value v n) ≡ Done) → ((a : Answer) → answer (refused a) ≡ a)
       → answer (singleOf value refused t w packed index) ≡ answerFor (singleTakes t w packed index)
   unfolding singleOf
   single-answers answer ev er = reads (answerFor (singleTakes t w packed index))
     where
-      reads : (a : Answer) → answer (single value refused a (valueAt t w packed index)) ≡ a
-      reads Done = ev (valueAt t w packed index)
+      reads : (a : Answer) → answer (single value refused a (valueAt t w packed index) (countAt t w index)) ≡ a
+      reads Done = ev (valueAt t w packed index) (countAt t w index)
       reads Width = er Width
       reads Block = er Block
       reads Packed = er Packed
@@ -39,42 +70,54 @@ module _ {S : Type 0} (value : ℕ → S) (refused : Answer → S) (t w : ℕ) (
       reads (Index p) = er (Index p)
       reads (Dictionary p) = er (Dictionary p)
 
-  pub single-values : (read : S → ℕ) → ((v : ℕ) → read (value v) ≡ v) → ((a : Answer) → read (refused a) ≡ 0)
+  pub single-values : (read : S → ℕ) → ((v n : ℕ) → read (value v n) ≡ v) → ((a : Answer) → read (refused a) ≡ 0)
       → read (singleOf value refused t w packed index) ≡ left (answerFor (singleTakes t w packed index)) (valueAt t w packed index) 0
   unfolding singleOf
   single-values read ev er = reads (isDone (answerFor (singleTakes t w packed index)))
     where
       reads : (b : Bool)
-          → read (pick b (value (valueAt t w packed index)) (refused (answerFor (singleTakes t w packed index)))) ≡ pick b (valueAt t w packed index) 0
-      reads true = ev (valueAt t w packed index)
+          → read (pick b (value (valueAt t w packed index) (countAt t w index)) (refused (answerFor (singleTakes t w packed index)))) ≡ pick b (valueAt t w packed index) 0
+      reads true = ev (valueAt t w packed index) (countAt t w index)
       reads false = er (answerFor (singleTakes t w packed index))
 
-  pub single-value : answerFor (singleTakes t w packed index) ≡ Done → singleOf value refused t w packed index ≡ value (valueAt t w packed index)
+  -- The count stands where the call is done, and a refused one has none.
+  pub single-counts : (count : S → ℕ) → ((v n : ℕ) → count (value v n) ≡ n) → ((a : Answer) → count (refused a) ≡ noCount)
+      → count (singleOf value refused t w packed index) ≡ left (answerFor (singleTakes t w packed index)) (countAt t w index) noCount
   unfolding singleOf
-  single-value e = ap (λ a. single value refused a (valueAt t w packed index)) e
+  single-counts count ev er = reads (isDone (answerFor (singleTakes t w packed index)))
+    where
+      reads : (b : Bool)
+          → count (pick b (value (valueAt t w packed index) (countAt t w index)) (refused (answerFor (singleTakes t w packed index)))) ≡ pick b (countAt t w index) noCount
+      reads true = ev (valueAt t w packed index) (countAt t w index)
+      reads false = er (answerFor (singleTakes t w packed index))
 
-module _ {S : Type 0} (value : ℕ → S) (refused : Answer → S) (t w : ℕ) (packed : List ℕ) (h : w ≤ t) (e : length packed ≡ lanes t * w) where
-  -- Single access gives the value that unpack leaves at that place.
+  pub single-value : answerFor (singleTakes t w packed index) ≡ Done → singleOf value refused t w packed index ≡ value (valueAt t w packed index) (countAt t w index)
+  unfolding singleOf
+  single-value e = ap (λ a. single value refused a (valueAt t w packed index) (countAt t w index)) e
+
+module _ {S : Type 0} (value : ℕ → ℕ → S) (refused : Answer → S) (t w : ℕ) (packed : List ℕ) (h : w ≤ t) (e : length packed ≡ lanes t * w) where
+  -- Single access gives the value that unpack leaves at that place, and its count.
   pub single-unpack : (out : List ℕ) → length out ≡ 1024 → (p : ℕ) → p < 1024
-      → singleOf value refused t w packed p ≡ value (getD (unpackLeaves t w out packed) p 0)
+      → singleOf value refused t w packed p ≡ value (getD (unpackLeaves t w out packed) p 0) (countAt t w p)
   unfolding unpackLeaves
   single-unpack out eo p hp =
       sym (single-good value refused t w packed p h e)
-      ∙ ap (λ a. single value refused a (valueAt t w packed p)) (index-in p hp)
-      ∙ ap value
+      ∙ ap (λ a. single value refused a (valueAt t w packed p) (countAt t w p)) (index-in p hp)
+      ∙ ap (λ v. value v (countAt t w p))
       (sym (unpack-at t w packed p hp) ∙ ap (λ a. getD (left a (unpackOf t w packed) out) p 0) (sym (good-block t w out packed h eo e)))
 
   module _ (indices out : List ℕ) (eo : length out ≡ length indices) where
-    -- Where the list is taken, each entry that it leaves is what single access gives for that index.
+    -- Where the list is taken, each entry that it leaves is what single access gives for that index, and the entry of its counts is the count.
     pub list-single : firstBeyond 1024 indices ≡ length indices → (i : ℕ) → i < length indices
-        → singleOf value refused t w packed (getD indices i 0) ≡ value (getD (listLeaves t w packed indices out) i 0)
-    unfolding listLeaves listOf
+        → singleOf value refused t w packed (getD indices i 0) ≡ value (getD (listLeaves t w packed indices out) i 0) (getD (countsOf t w indices) i 0)
+    unfolding listLeaves listOf countsOf
     list-single good i hi =
         sym (single-good value refused t w packed (getD indices i 0) h e)
-        ∙ ap (λ a. single value refused a (valueAt t w packed (getD indices i 0))) (indices-good indices good i hi)
-        ∙ ap value
+        ∙ ap (λ a. single value refused a (valueAt t w packed (getD indices i 0)) (countAt t w (getD indices i 0))) (indices-good indices good i hi)
+        ∙ ap₂ value
         (sym (getD-tab (length indices) (λ i. valueAt t w packed (getD indices i 0)) i 0 hi)
         ∙ ap (λ a. getD (left a (listOf t w packed indices) out) i 0) (sym (list-good t w packed indices out h e eo good)))
+        (sym (getD-tab (length indices) (λ i. countAt t w (getD indices i 0)) i 0 hi))
 
     -- Where an entry is refused, the list is refused at the first of those, and nothing is written.
     pub list-refused : firstBeyond 1024 indices < length indices

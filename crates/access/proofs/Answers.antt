@@ -1,6 +1,6 @@
 -- What access to one place and by a list answers, by the tests that they make, over the element size.
 -- Assumes nothing.
-use mathlib.Core.Path.{_≡_, ap}
+use mathlib.Core.Path.{_≡_, ap, ap₂}
 use mathlib.Core.List.{List, [], _∷_}
 use Prim.Native.Nat.{ℕ, _*_, _≤_, _<_}
 use native.Mathlib.Omega.{arith}
@@ -13,6 +13,7 @@ use Rattle.places.specs.Sizes.{lanes}
 use Rattle.places.specs.Takes.{an-index, answerFor}
 use Rattle.places.proofs.Search.{first-beyond-before}
 use Rattle.access.specs.Calls.{single, singleOf, listTakes}
+use Rattle.access.specs.Counts.{countAt}
 use Rattle.packing.specs.Packed.{valueAt}
 
 -- single access
@@ -21,18 +22,18 @@ pub index-in : (i : ℕ) → i < 1024 → answerFor (an-index i ∷ []) ≡ Done
 unfolding answerFor
 index-in i h = simp (lt-ltb i 1024 h)
 
--- an index within the block is answered with the value there
-pub index-value : {S : Type 0} (value : ℕ → S) (refused : Answer → S) (t w : ℕ) (packed : List ℕ) (i v : ℕ) → i < 1024 → v ≡ valueAt t w packed i
-    → value v ≡ single value refused (answerFor (an-index i ∷ [])) (valueAt t w packed i)
-index-value value refused t w packed i v h e = rw (index-in i h) (ap value e)
+-- an index within the block is answered with the value there and its count
+pub index-value : {S : Type 0} (value : ℕ → ℕ → S) (refused : Answer → S) (t w : ℕ) (packed : List ℕ) (i v n : ℕ) → i < 1024 → v ≡ valueAt t w packed i
+    → n ≡ countAt t w i → value v n ≡ single value refused (answerFor (an-index i ∷ [])) (valueAt t w packed i) (countAt t w i)
+index-value value refused t w packed i v n h e c = rw (index-in i h) (ap₂ value e c)
 
 -- an index past the block's end is refused
-pub index-past : {S : Type 0} (value : ℕ → S) (refused : Answer → S) (i v : ℕ) → 1024 ≤ i
-    → refused (Index 0) ≡ single value refused (answerFor (an-index i ∷ [])) v
+pub index-past : {S : Type 0} (value : ℕ → ℕ → S) (refused : Answer → S) (i v n : ℕ) → 1024 ≤ i
+    → refused (Index 0) ≡ single value refused (answerFor (an-index i ∷ [])) v n
 unfolding answerFor
-index-past value refused i v h = simp (le-ltb i 1024 h)
+index-past value refused i v n h = simp (le-ltb i 1024 h)
 
-module _ {S : Type 0} (value : ℕ → S) (refused : Answer → S) (t w : ℕ) (packed : List ℕ) (i : ℕ) where
+module _ {S : Type 0} (value : ℕ → ℕ → S) (refused : Answer → S) (t w : ℕ) (packed : List ℕ) (i : ℕ) where
   pub single-bad-width : t < w → singleOf value refused t w packed i ≡ refused Width
   unfolding singleOf answerFor
   single-bad-width h = simp (lt-leb w t h)
@@ -42,7 +43,7 @@ module _ {S : Type 0} (value : ℕ → S) (refused : Answer → S) (t w : ℕ) (
   single-bad-packed h b = simp (le-leb w t h, ne-eqb (length packed) (lanes t * w) b)
 
   pub single-good : w ≤ t → length packed ≡ lanes t * w
-      → single value refused (answerFor (an-index i ∷ [])) (valueAt t w packed i) ≡ singleOf value refused t w packed i
+      → single value refused (answerFor (an-index i ∷ [])) (valueAt t w packed i) (countAt t w i) ≡ singleOf value refused t w packed i
   unfolding singleOf answerFor
   single-good h e = simp (le-leb w t h, eq-eqb (length packed) (lanes t * w) e)
 

@@ -1,3 +1,4 @@
 pub mod Accesses
 pub mod Answers
+pub mod Counts
 pub mod Lookups

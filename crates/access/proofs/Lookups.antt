@@ -1,7 +1,7 @@
 -- What a lookup gives for a place is its lane and its row, so that the value of that row in that lane is the value at the place. And what
 -- the arithmetic of a place asks of an element size.
 -- Assumes nothing.
-use mathlib.Core.Path.{_≡_, sym, ap₂, subst, _∙_}
+use mathlib.Core.Path.{_≡_, sym, ap, ap₂, subst, _∙_}
 use mathlib.Core.List.{List}
 use Prim.Native.Nat.{ℕ, _%_, _≤_, _<_}
 use native.Mathlib.Omega.{arith}
@@ -13,20 +13,29 @@ use Rattle.places.specs.Tab.{tab}
 use Rattle.places.proofs.Places.{each, size8, size16, size32, size64, lane-lt, row-lt}
 use Rattle.places.proofs.Tabs.{length-tab, getD-tab}
 use Rattle.packing.specs.Packed.{wordsNumber, valueAt}
+use Rattle.access.specs.Counts.{wordsRead, countAt}
 
-module _ {t : ℕ} (s : Size t) (i : ℕ) (h : i < 1024) (l r : ℕ) (el : l ≡ getD (tab 1024 (lane t)) i 0) (er : r ≡ getD (tab 1024 (row t)) i 0) where
-  is-lane : l ≡ lane t i
-  is-lane = el ∙ getD-tab 1024 (lane t) i 0 h
-
+module _ {t : ℕ} (s : Size t) (i : ℕ) (h : i < 1024) (r : ℕ) (er : r ≡ getD (tab 1024 (row t)) i 0) where
   is-row : r ≡ row t i
   is-row = er ∙ getD-tab 1024 (row t) i 0 h
 
-  pub looked-range : (l < lanes t) × (r < t)
-  looked-range = (subst (λ n. n < lanes t) (sym is-lane) (lane-lt s i h), subst (λ n. n < t) (sym is-row) (row-lt s i h))
+  pub row-range : r < t
+  row-range = subst (λ n. n < t) (sym is-row) (row-lt s i h)
 
-  pub looked-value : (w : ℕ) (packed : List ℕ) → digit w (wordsNumber t w packed l) r ≡ valueAt t w packed i
-  unfolding valueAt
-  looked-value w packed = ap₂ (λ l r. digit w (wordsNumber t w packed l) r) is-lane is-row
+  pub looked-count : (w n : ℕ) → n ≡ wordsRead t w r → n ≡ countAt t w i
+  unfolding countAt
+  looked-count w n e = e ∙ ap (wordsRead t w) is-row
+
+  module _ (l : ℕ) (el : l ≡ getD (tab 1024 (lane t)) i 0) where
+    is-lane : l ≡ lane t i
+    is-lane = el ∙ getD-tab 1024 (lane t) i 0 h
+
+    pub looked-range : (l < lanes t) × (r < t)
+    looked-range = (subst (λ n. n < lanes t) (sym is-lane) (lane-lt s i h), row-range)
+
+    pub looked-value : (w : ℕ) (packed : List ℕ) → digit w (wordsNumber t w packed l) r ≡ valueAt t w packed i
+    unfolding valueAt
+    looked-value w packed = ap₂ (λ l r. digit w (wordsNumber t w packed l) r) is-lane is-row
 
 -- a rule's entry is what the rule gives, and past the block's end it is 0
 module _ (rule : ℕ → ℕ) (p : ℕ) where

@@ -1,4 +1,5 @@
 pub mod Calls
+pub mod Counts
 pub mod InnerEntries
 pub mod InnerLookups
 pub mod t16

@@ -1,8 +1,8 @@
 // Access to a packed block of 1,024 values: at one place, and by a list of places. From the crate's src/bitpacking.rs. The width
 // is given at the call.
 //
-// What is the same at all four element sizes stands here: the search of a list for an index past the block's end, an entry's
-// refusal as the list's, and the rules for the lane and the row of a place. Each size has a module of its own.
+// What is the same at all four element sizes stands here: what a list of lookups gives, the search of a list for an index past the
+// block's end, an entry's refusal as the list's, and the rules for the lane and the row of a place. Each size has a module of its own.
 pub mod t16;
 pub mod t32;
 pub mod t64;
@@ -14,7 +14,42 @@ ghost use mathlib.Core.Path.{_≡_};
 ghost use Rattle.places.specs.Places.{lane, row};
 ghost use Rattle.places.specs.Search.{firstBeyond};
 ghost use Rattle.places.specs.Sizes.{Size};
+ghost use Rattle.access.specs.Calls.{answerOf, wordsOf};
 ghost use Rattle.access.specs.InnerEntries.{atEntry};
+
+// A number of packed words: how many the bits of a value stand in, or the sum of these over a list (document 02, Item 5).
+pub type Words = u64;
+
+// What stands for a count where there is none.
+pub const NO_COUNT: Words = 0xFFFF_FFFF_FFFF_FFFF;
+
+// What access by a list gives: the words of all its lookups, or the refusal.
+pub enum Listed {
+    Words(Words),
+    Refused(Answer),
+}
+
+impl Listed {
+    // The answer in the terms of the other calls.
+    pub fn answer(self) -> Answer
+        ensures { λ r. ⌜ r ≡ answerOf self ⌝ }
+    {
+        match self {
+            Listed::Words(_) => Answer::Done,
+            Listed::Refused(a) => a,
+        }
+    }
+
+    // The words; 0 after a refusal.
+    pub fn words(self) -> Words
+        ensures { λ r. ⌜ r ≡ wordsOf self ⌝ }
+    {
+        match self {
+            Listed::Words(n) => n,
+            Listed::Refused(_) => 0,
+        }
+    }
+}
 
 // The lowest place of a list whose index is 1,024 or more; the list's length where there is none.
 fn first_beyond(indices: &[usize]) -> usize

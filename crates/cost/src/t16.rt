@@ -10,6 +10,7 @@ use crate::all_places;
 use crate::element::byte_to_u16;
 use crate::element::number_of_u16;
 use crate::element::plus;
+use access::Listed;
 ghost use Rattle.io.specs.Counts.{Counts};
 
 const LANES: usize = 64;
@@ -83,7 +84,10 @@ fn once(
         2 => unpack_single(width, all, turn, out),
         3 => {
             let n = words(width, all);
-            access::t16::unpack_indices(width, &all[..n], places, out).number()
+            listed(
+                access::t16::unpack_indices(width, &all[..n], places, out),
+                out,
+            )
         }
         4 => {
             let lanes = words(1, all);
@@ -123,18 +127,26 @@ fn for_pack(width: usize, values: &[u16], reference: u16, out: &mut [u16]) -> us
     deltas::t16::for_pack(width, values, reference, &mut out[..n]).number()
 }
 
-// Another place at each turn, so that all of them are counted and no turn is like the one before.
+// Another place at each turn, so that all of them are counted and no turn is like the one before. The value is put as far from its
+// place as its count of words says, so that the compiler has to work the count out.
 fn unpack_single(width: usize, values: &[u16], turn: usize, out: &mut Block) -> usize {
     let n = words(width, values);
     let place = turn % 1024;
     let single = access::t16::unpack_single(width, &values[..n], place);
     match single {
-        access::t16::Single::Value(x) => {
-            out[place] = x;
+        access::t16::Single::Value(x, n) => {
+            out[std::num::wrapping_add_usize(place, n as usize) % 1024] = x;
             0
         }
         access::t16::Single::Refused(answer) => answer.number(),
     }
+}
+
+// The number of a list's answer. Its sum of words changes an output too, as the count of a single access does.
+fn listed(listed: Listed, out: &mut Block) -> usize {
+    let n = listed.words() as usize % 1024;
+    out[n] = 0;
+    listed.answer().number()
 }
 
 // How many words a block packed at this width has; none where that is more than a block's length, which pack and its

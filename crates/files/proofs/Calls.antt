@@ -4,7 +4,7 @@ use mathlib.Core.Bool.{Bool, true, false}
 use mathlib.Core.List.{List, [], _∷_, _++_}
 use mathlib.Core.Path.{_≡_, refl, sym, ap, _∙_}
 use Prim.Native.Nat.{ℕ, _/_, _≤_, _<_}
-use native.Mathlib.Decide.{decLt}
+use native.Mathlib.Decide.{decLe, decLt}
 use native.Mathlib.Omega.{arith}
 use lib.ListN.{length}
 use borrow.Author.Tests.{lt-ltb, le-ltb, eq-eqb, ne-eqb}
@@ -13,12 +13,12 @@ use Rattle.places.specs.Pick.{pick}
 use Rattle.contents.specs.declared.FileAnswer.{FileAnswer}
 use Rattle.contents.specs.declared.FileAnswer.the-variants.{Done, Block, Beyond, Runs}
 use Rattle.contents.specs.Answers.{FileTest, a-number, passes, refusal, fileAnswer, numberOf, isDone, left}
-use Rattle.contents.specs.Contents.{count, contentsTests}
-use Rattle.contents.proofs.Answers.{passed, stopped, none-left, in-front-done, in-front-refused}
+use Rattle.contents.specs.Contents.{count, entryOf, entryOr, contentsTests}
+use Rattle.contents.proofs.Answers.{passed, stopped, none-left, refusal-not-done, in-front-done, in-front-refused, number-done}
 use Rattle.files.specs.declared.Row.the-variants.{Value, Refused}
 use Rattle.files.specs.Files.{rowCount, rowAt, blockIn, fileTests, blockTests, blockLeaves, rowTests}
-use Rattle.files.specs.Rows.{rowOf}
-use Rattle.files.proofs.Files.{goodIn, left-picked}
+use Rattle.files.specs.Rows.{rowWords, rowOf}
+use Rattle.files.proofs.Files.{goodIn, left-picked, entry-read}
 use Rattle.files.proofs.Others.{badBut, asked-bad, none-bad}
 
 -- Two tests that answer alike do so behind the same tests.
@@ -26,6 +26,24 @@ last-same : (xs : List FileTest) (x y : FileTest) → fileAnswer (x ∷ []) ≡ 
 unfolding fileAnswer
 last-same [] x y e = e
 last-same (z ∷ xs) x y e = ap (unless (passes z) (refusal z)) (last-same xs x y e)
+
+-- Where all tests are passed, those in front are, and those behind.
+front-done : (xs ys : List FileTest) → fileAnswer (xs ++ ys) ≡ Done → fileAnswer xs ≡ Done
+front-done xs ys e =
+    elim (decLe (numberOf (fileAnswer xs)) 0) [
+      | yes z ↦ number-done (fileAnswer xs) (omega arith)
+      | no n ↦ sym (in-front-refused xs ys (λ d. n (omega (arith, ap numberOf d)))) ∙ e
+    ]
+
+rest-done : (xs ys : List FileTest) → fileAnswer (xs ++ ys) ≡ Done → fileAnswer ys ≡ Done
+rest-done xs ys e = sym (in-front-done xs ys (front-done xs ys e)) ∙ e
+
+number-passed : (n m : ℕ) → fileAnswer (a-number n m ∷ []) ≡ Done → n < m
+number-passed n m e =
+    elim (decLt n m) [
+      | yes h ↦ h
+      | no h ↦ absurd (refusal-not-done (a-number n m) (sym (stopped _ [] (le-ltb n m (omega arith))) ∙ e))
+    ]
 
 module _ (l : List ℕ) where
   module _ (b : ℕ) (output : List ℕ) where
@@ -66,9 +84,9 @@ module _ (l : List ℕ) where
 
   module _ (p : ℕ) where
     -- what a row gives, by its answer
-    row-is : (a : FileAnswer) → fileAnswer (rowTests l p) ≡ a → rowOf l p ≡ pick (isDone a) (Value (rowAt l p)) (Refused a)
+    row-is : (a : FileAnswer) → fileAnswer (rowTests l p) ≡ a → rowOf l p ≡ pick (isDone a) (Value (rowAt l p) (rowWords l p)) (Refused a)
     unfolding rowOf
-    row-is a e = ap (λ a. pick (isDone a) (Value (rowAt l p)) (Refused a)) e
+    row-is a e = ap (λ a. pick (isDone a) (Value (rowAt l p) (rowWords l p)) (Refused a)) e
 
     same-number : fileAnswer (a-number p (rowCount l) ∷ []) ≡ fileAnswer (a-number (p / 1024) (count l) ∷ [])
     same-number =
@@ -86,5 +104,12 @@ module _ (l : List ℕ) where
     pub row-refused : (a : FileAnswer) → fileAnswer (rowTests l p) ≡ a → (numberOf a ≡ 0 → ⊥) → rowOf l p ≡ Refused a
     row-refused a e n = row-is a e ∙ simp (ne-eqb (numberOf a) 0 n)
 
-    pub row-done : fileAnswer (rowTests l p) ≡ Done → rowOf l p ≡ Value (rowAt l p)
+    -- The entry of a row's block is read where the lookup is done.
+    pub row-entry : fileAnswer (rowTests l p) ≡ Done → entryOr l (p / 1024) ≡ entryOf l (p / 1024)
+    row-entry e =
+        let file = front-done (fileTests l) (a-number p (rowCount l) ∷ []) e in
+        let there = number-passed p (rowCount l) (rest-done (fileTests l) (a-number p (rowCount l) ∷ []) e) in
+        entry-read l (front-done (contentsTests l (length l)) _ file) (p / 1024) (omega arith)
+
+    pub row-done : fileAnswer (rowTests l p) ≡ Done → rowOf l p ≡ Value (rowAt l p) (rowWords l p)
     row-done e = row-is Done e

@@ -20,7 +20,7 @@ use Rattle.contents.specs.First.{firstFrom, firstBad}
 use Rattle.bodies.specs.Bodies.{blockOf, hasGoodRuns}
 use Rattle.files.specs.declared.Row.the-variants.{Value, Refused}
 use Rattle.files.specs.Files.{badRuns, blockIn, rowCount, rowAt, rowsOf, fileTests, blockLeaves}
-use Rattle.files.specs.Rows.{rowOf}
+use Rattle.files.specs.Rows.{rowWords, rowOf}
 use Rattle.files.proofs.Calls.{row-as-block, row-done, block-done}
 
 module _ (l : List ℕ) where
@@ -36,13 +36,14 @@ module _ (l : List ℕ) where
 
   -- In an accepted file the lookup of a row gives that row, which is what one block out leaves at its place.
   pub row-block : fileAnswer (fileTests l) ≡ Done → (p : ℕ) → p < 1024 * count l → (output : List ℕ) → length output ≡ 1024
-      → (rowOf l p ≡ Value (getD (rowsOf l) p 0)) × (rowOf l p ≡ Value (getD (blockLeaves l (p / 1024) output) (p % 1024) 0))
+      → (rowOf l p ≡ Value (getD (rowsOf l) p 0) (rowWords l p))
+      × (rowOf l p ≡ Value (getD (blockLeaves l (p / 1024) output) (p % 1024) 0) (rowWords l p))
   unfolding blockLeaves rowAt
   row-block done p h output e =
       let out = block-done l (p / 1024) output e done (omega arith) in
-      let looked : rowOf l p ≡ Value (getD (blockIn l (p / 1024)) (p % 1024) 0) = row-done l p (row-as-block l p output e ∙ out) in (
-        looked ∙ ap Value (sym (row-place p h)),
-        looked ∙ ap (λ a. Value (getD (left a (blockIn l (p / 1024)) output) (p % 1024) 0)) (sym out),
+      let looked : rowOf l p ≡ Value (getD (blockIn l (p / 1024)) (p % 1024) 0) (rowWords l p) = row-done l p (row-as-block l p output e ∙ out) in (
+        looked ∙ ap (λ v. Value v (rowWords l p)) (sym (row-place p h)),
+        looked ∙ ap (λ a. Value (getD (left a (blockIn l (p / 1024)) output) (p % 1024) 0) (rowWords l p)) (sym out),
       )
 
 -- ---- the worked files

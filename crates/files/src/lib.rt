@@ -1,6 +1,9 @@
 // The column file (document 02, Item 1): a check of the whole file, one block out, and the value at a file row. A file is lent as
 // bytes. Every call checks the whole file before it answers for a block or a row, by the two steps that stand in crates of
 // their own: the contents against the file's length, and each body against its entry. No call reads a body twice.
+use access::NO_COUNT;
+use access::Words;
+use contents::Entry;
 use contents::FileAnswer;
 use contents::count;
 use contents::entry_or;
@@ -15,7 +18,7 @@ ghost use Rattle.contents.specs.Contents.{count as countIn, entryOf, bodyStart,
 ghost use Rattle.contents.specs.First.{firstBad};
 ghost use Rattle.bodies.specs.Bodies.{hasGoodRuns};
 ghost use Rattle.files.specs.Files.{bodyOf, blockIn, fileTests, blockTests, blockLeaves};
-ghost use Rattle.files.specs.Rows.{answerOf, valueOf, rowOf};
+ghost use Rattle.files.specs.Rows.{answerOf, valueOf, wordsOf, wordsIn, rowOf};
 
 // Checks the whole file. No block has the count for its number, so none is left out.
 pub fn check(file: &[u8]) -> FileAnswer
@@ -142,9 +145,9 @@ fn lay_down(file: &[u8], b: usize, output: &mut [u64]) -> FileAnswer
     FileAnswer::Done
 }
 
-// The value at a file row, or the refusal.
+// The value at a file row and how many packed words its bits stand in, or the refusal.
 pub enum Row {
-    Value(u64),
+    Value(u64, Words),
     Refused(FileAnswer),
 }
 
@@ -154,7 +157,7 @@ impl Row {
         ensures { λ r. ⌜ r ≡ answerOf self ⌝ }
     {
         match self {
-            Row::Value(_) => FileAnswer::Done,
+            Row::Value(_, _) => FileAnswer::Done,
             Row::Refused(a) => a,
         }
     }
@@ -164,8 +167,18 @@ impl Row {
         ensures { λ r. ⌜ r ≡ valueOf self ⌝ }
     {
         match self {
-            Row::Value(v) => v,
+            Row::Value(v, _) => v,
             Row::Refused(_) => 0,
+        }
+    }
+
+    // The count of words; `NO_COUNT` for a value of kind 2 or 3, and after a refusal.
+    pub fn words(self) -> Words
+        ensures { λ r. ⌜ r ≡ wordsOf self ⌝ }
+    {
+        match self {
+            Row::Value(_, n) => n,
+            Row::Refused(_) => NO_COUNT,
         }
     }
 }
@@ -180,5 +193,16 @@ pub fn row_at(file: &[u8], p: usize) -> Row
         return Row::Refused(answer);
     }
     let v = block[p % 1024];
-    Row::Value(v)
+    let n = words_of(entry_or(file, p / 1024), p % 1024);
+    Row::Value(v, n)
+}
+
+// How many packed words the value at a place of a block stands in. The values of kinds 2 and 3 have no count.
+fn words_of(e: Entry, place: usize) -> Words
+    ensures { λ r. ⌜ r ≡ wordsIn e place ⌝ }
+{
+    if e.kind < 2 {
+        return access::t64::words_at(e.width as usize, place);
+    }
+    NO_COUNT
 }

@@ -15,14 +15,15 @@ use Rattle.places.specs.Sizes.{lanes}
 use Rattle.places.proofs.Search.{first-beyond-before, first-beyond-none}
 use Rattle.places.specs.Takes.{answerFor}
 use Rattle.access.specs.Calls.{singleTakes, singleOf, listTakes, listLeaves}
+use Rattle.access.specs.Counts.{countsOf}
 use Rattle.access.proofs.Accesses.{list-single, list-refused}
 use Rattle.promises.proofs.Numbers.{single-numbers, list-numbers}
 
 module _ (t w : ℕ) (packed indices output : List ℕ) where
-  -- Where the list is done, each entry that it leaves is the value that single access gives for its index.
-  pub batch-done : {S : Type 0} (value : ℕ → S) (refused : Answer → S) → answerFor (listTakes t w packed indices output) ≡ Done
+  -- Where the list is done, each entry that it leaves is the value that single access gives for its index, with its count.
+  pub batch-done : {S : Type 0} (value : ℕ → ℕ → S) (refused : Answer → S) → answerFor (listTakes t w packed indices output) ≡ Done
       → (i : ℕ) → i < length indices
-      → singleOf value refused t w packed (getD indices i 0) ≡ value (getD (listLeaves t w packed indices output) i 0)
+      → singleOf value refused t w packed (getD indices i 0) ≡ value (getD (listLeaves t w packed indices output) i 0) (getD (countsOf t w indices) i 0)
   batch-done value refused done i h =
       let given = list-numbers t w packed indices output 0 .0 .0 (ap numberOf done, ap placeOf done) in
       list-single value refused t w packed (given .0) (given .1 .0) indices output (given .1 .1 .0)
@@ -49,5 +50,5 @@ module _ (t w : ℕ) (packed indices output : List ℕ) where
           | yes h ↦ h
           | no d ↦ absurd (omega (arith, first-beyond-before 1024 indices i (omega arith), bad))
         ] in
-        let left = list-refused {S = Answer} (λ _. Done) (λ a. a) t w packed hw ep indices output eo (omega arith) in
+        let left = list-refused {S = Answer} (λ _ _. Done) (λ a. a) t w packed hw ep indices output eo (omega arith) in
         (left .0, first, left .1)

@@ -31,6 +31,7 @@ use Rattle.packing.proofs.Rounds.{word-pack}
 use Rattle.access.specs.declared.t8.Single.{Single}
 use Rattle.access.specs.declared.t8.Single.the-variants.{Value, Refused}
 use Rattle.access.specs.Calls.{single, singleOf}
+use Rattle.access.specs.Counts.{wordsRead, countAt}
 use Rattle.access.proofs.Answers.{single-good, index-in}
 use Rattle.deltas.specs.Calls.{deltaLeaves}
 use Rattle.deltas.proofs.Answers.{for-pack-leaves, unfor-pack-leaves, delta-leaves}
@@ -93,11 +94,11 @@ lane-holds t w l rows words hw hl lr e values packed lv lp held =
     ∙ ap (λ m. digit t m k)
     (number-ext w (part w values l) (λ r. getD rows r 0 % 2 ^ w) t (λ r hr. ap (λ n. n % 2 ^ w) (held r (omega arith))))))
 
--- single access within the block gives the value at its place
+-- single access within the block gives the value at its place, and its count
 read-is : (t w p : ℕ) (packed : List ℕ) → w ≤ t → p < 1024 → length packed ≡ lanes t * w
-    → singleOf Value Refused t w packed p ≡ Value (valueAt t w packed p)
+    → singleOf Value Refused t w packed p ≡ Value (valueAt t w packed p) (countAt t w p)
 read-is t w p packed hw hp lp =
-    sym (single-good Value Refused t w packed p hw lp) ∙ ap (λ a. single Value Refused a (valueAt t w packed p)) (index-in p hp)
+    sym (single-good Value Refused t w packed p hw lp) ∙ ap (λ a. single Value Refused a (valueAt t w packed p) (countAt t w p)) (index-in p hp)
 
 -- n words, all 0 but the one at k, which is b
 marked : (n k b : ℕ) → List ℕ
@@ -126,8 +127,8 @@ marked-off n k b i off =
     ]
 
 -- a mark that changes the value shows that its word is needed
-value-apart : (x y : Single) (v w : ℕ) → x ≡ Value v → y ≡ Value w → x ≡ y → v ≡ w
-value-apart x y v w p q e = cc
+value-apart : (x y : Single) (v w m n : ℕ) → x ≡ Value v m → y ≡ Value w n → x ≡ y → v ≡ w
+value-apart x y v w m n p q e = cc
 
 is-needed : (t w p k b : ℕ) → w ≤ t → p < 1024 → b < 2 ^ t
     → (valueAt t w (marked (lanes t * w) k 0) p ≡ valueAt t w (marked (lanes t * w) k b) p → ⊥) → Needed t w p k
@@ -140,17 +141,18 @@ is-needed t w p k b hw hp small changes =
       one-fits = none;
       other-fits = some;
       same = λ i off. marked-off (lanes t * w) k 0 i off ∙ sym (marked-off (lanes t * w) k b i off);
-      apart = λ e. changes (value-apart _ _ _ _ (read-is t w p _ hw hp (none .0)) (read-is t w p _ hw hp (some .0)) e);
+      apart = λ e. changes (value-apart _ _ _ _ _ _ (read-is t w p _ hw hp (none .0)) (read-is t w p _ hw hp (some .0)) e);
     }
 
 read-holds : (t w : ℕ) (words : List Mark) (p value : ℕ) (from : List ℕ) → w ≤ t → p < 1024
     → ((packed : List ℕ) → Holding packed words → valueAt t w packed p ≡ value)
+    → countAt t w p ≡ length from
     → ((x y : List ℕ) → SameAt from x y → valueAt t w x p ≡ valueAt t w y p)
     → Each (Needed t w p) from → Holds (reads t w words p value from)
 unfolding Holds
-read-holds t w words p value from hw hp given same needed = (
-  (λ packed lp held. read-is t w p packed hw hp lp ∙ ap Value (given packed held)),
-  (λ x y lx ly agree. read-is t w p x hw hp lx ∙ ap Value (same x y agree) ∙ sym (read-is t w p y hw hp ly)),
+read-holds t w words p value from hw hp given many same needed = (
+  (λ packed lp held. read-is t w p packed hw hp lp ∙ ap₂ Value (given packed held) many),
+  (λ x y lx ly agree. read-is t w p x hw hp lx ∙ ap (λ v. Value v (countAt t w p)) (same x y agree) ∙ sym (read-is t w p y hw hp ly)),
   needed,
 )
 
@@ -263,7 +265,7 @@ a and b = (a, b)
 infixr 20 _and_
 -- In the order of the list. P5 stands in four lines, and P8 and P11 in two each.
 pub cases-hold : All Holds cases
-unfolding order place lane row source goesTo minus plus number digit tab tabFrom laneWords word wordsNumber valueAt stepOf marked
+unfolding order place lane row source goesTo minus plus number digit tab tabFrom laneWords word wordsNumber valueAt wordsRead countAt stepOf marked
 cases-hold =
     place-holds size8 _ _ _ (lit< tt) (lit< tt) refl
     and place-holds size16 _ _ _ (lit< tt) (lit< tt) refl
@@ -274,7 +276,7 @@ cases-hold =
     and source-holds _ _ (lit< tt) refl
     and source-holds _ _ (lit< tt) refl
     and lane-holds _ _ _ rowsP6 _ (lit≤ tt) (lit< tt) refl refl
-    and read-holds _ _ _ _ _ _ (lit≤ tt) (lit< tt) (λ packed held. rw (held .0, held .1 .0, held .1 .1 .0)) (λ x y agree. omega (arith, agree .0, agree .1 .0))
+    and read-holds _ _ _ _ _ _ (lit≤ tt) (lit< tt) (λ packed held. rw (held .0, held .1 .0, held .1 .1 .0)) refl (λ x y agree. omega (arith, agree .0, agree .1 .0))
     (is-needed _ _ _ _ 64 (lit≤ tt) (lit< tt) (lit< tt) (λ e. let z : _≡_ {A = ℕ} 0 1 = e in omega arith) and is-needed _ _ _ _ 1 (lit≤ tt) (lit< tt) (lit< tt) (λ e. let z : _≡_ {A = ℕ} 0 4 = e in omega arith) and tt)
     and frame-holds size8 _ _ _ _ _ (lit≤ tt) refl refl
     and frame-holds size8 _ _ _ _ _ (lit≤ tt) refl refl

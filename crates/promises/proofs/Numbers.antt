@@ -7,13 +7,14 @@
 -- Assumes nothing.
 use mathlib.Core.List.{List, []}
 use mathlib.Core.Logic.{_↔_, _≢_, _⊎_}
-use mathlib.Core.Path.{_≡_, refl, sym, ap, _∙_}
+use mathlib.Core.Path.{_≡_, refl, sym, ap, ap₂, _∙_}
 use Prim.Native.Nat.{ℕ, _*_, _≤_, _<_}
 use native.Mathlib.Omega.{arith}
 use lib.ListN.{length, getD}
 use Rattle.places.specs.declared.Answer.{Answer}
 use Rattle.places.specs.declared.Answer.the-variants.{Done}
 use Rattle.places.specs.Answers.{numberOf, placeOf, left}
+use Rattle.places.specs.Places.{row}
 use Rattle.places.specs.Search.{firstBeyond}
 use Rattle.places.specs.Sizes.{lanes}
 use Rattle.places.specs.Tab.{tab}
@@ -24,7 +25,9 @@ use Rattle.packing.specs.Calls.{packTakes}
 use Rattle.packing.specs.Packed.{valueAt}
 use Rattle.packing.proofs.Rounds.{value-zero}
 use Rattle.access.specs.Calls.{singleTakes, single, singleOf, listTakes, listOf, listLeaves}
+use Rattle.access.specs.Counts.{countAt}
 use Rattle.access.proofs.Answers.{list-good, index-in, single-good}
+use Rattle.access.proofs.Counts.{words-none}
 use Rattle.deltas.specs.Calls.{deltaTakes, undeltaPackTakes}
 use Rattle.runs.specs.Calls.{encodeTakes, decodeTakes}
 use Rattle.promises.specs.Tables.{Lowest, Gives}
@@ -126,13 +129,14 @@ module _ (t : ℕ) (packed : List ℕ) (e : length packed ≡ 0) where
   none : length packed ≡ lanes t * 0
   none = omega arith
 
-  -- At width 0 single access gives the value 0 for each index within the block,
-  pub single-zero : {S : Type 0} (value : ℕ → S) (refused : Answer → S) (index : ℕ) → index < 1024
-      → singleOf value refused t 0 packed index ≡ value 0
+  -- At width 0 single access gives the value 0 for each index within the block, from no word,
+  pub single-zero : {S : Type 0} (value : ℕ → ℕ → S) (refused : Answer → S) (index : ℕ) → index < 1024
+      → singleOf value refused t 0 packed index ≡ value 0 0
+  unfolding countAt
   single-zero value refused index h =
       sym (single-good value refused t 0 packed index (omega arith) none)
-      ∙ ap (λ a. single value refused a (valueAt t 0 packed index)) (index-in index h)
-      ∙ ap value (value-zero t packed index)
+      ∙ ap (λ a. single value refused a (valueAt t 0 packed index) (countAt t 0 index)) (index-in index h)
+      ∙ ap₂ value (value-zero t packed index) (words-none t 0 (row t index) refl)
 
   -- and a list of such indices is done, with 0 at each place.
   pub list-zero : (indices output : List ℕ) → length output ≡ length indices → firstBeyond 1024 indices ≡ length indices

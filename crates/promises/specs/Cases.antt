@@ -78,7 +78,7 @@ pub data Case : Type 0 where
   comes : (i j : ℕ) → Case
   -- Lane l, with these numbers in its rows, is packed at width w to these words.
   packs : (t w l : ℕ) (rows : List ℕ) (words : List Mark) → Case
-  -- With these packed words, single access at place p gives the value, from the words at these places.
+  -- With these packed words, single access at place p gives the value, from the words at these places, and says how many they are.
   reads : (t w : ℕ) (words : List Mark) (p value : ℕ) (from : List ℕ) → Case
   -- The value minus the reference is the difference, and from a frame that is packed at width w comes back the result.
   frames : (t w value reference difference result : ℕ) → Case
@@ -102,10 +102,10 @@ Holds (comes i j) =
 Holds (packs t w l rows words) =
     (values packed : List ℕ) → length values ≡ 1024 → length packed ≡ lanes t * w
     → Rows values l rows → Holding (packLeaves t w values packed) words
--- Whatever the other words are, single access gives the value. What it gives depends on no other words than those named, and on each of them.
+-- Whatever the other words are, single access gives the value and the number of its words. What it gives depends on no other words than those named, and on each of them.
 -- The one such case has t 8, so the answer is of that size's enum.
 Holds (reads t w words p value from) =
-    ((packed : List ℕ) → length packed ≡ lanes t * w → Holding packed words → singleOf Value Refused t w packed p ≡ Value value)
+    ((packed : List ℕ) → length packed ≡ lanes t * w → Holding packed words → singleOf Value Refused t w packed p ≡ Value value (length from))
     × ((x y : List ℕ) → length x ≡ lanes t * w → length y ≡ lanes t * w → SameAt from x y
     → singleOf Value Refused t w x p ≡ singleOf Value Refused t w y p)
     × Each (Needed t w p) from

@@ -93,8 +93,7 @@ fn next() -> Step {
     }
 }
 
-// A case after its head: reads the buffers, makes the call and compares. No call gives back a reference here, so the reply has
-// it as it was given.
+// A case after its head: reads the buffers, makes the call and compares.
 fn case(head: Head) -> Step {
     let mut a = [0u64; 4096];
     let mut b = [0u64; 4096];
@@ -112,14 +111,16 @@ fn case(head: Head) -> Step {
         return Step::Bad;
     }
     let reply = call(head, &a, &b, &mut c, &mut d);
-    judge(
-        head,
-        reply.with_reference(head.reference),
-        &c,
-        &c_exit,
-        &d,
-        &d_exit,
-    )
+    judge(head, whole(head, reply), &c, &c_exit, &d, &d_exit)
+}
+
+// The reply with the reference that goes with it: single access gives back its count there, and to every other call the
+// reference is given.
+fn whole(head: Head, reply: Reply) -> Reply {
+    if head.op == 2 {
+        return reply;
+    }
+    reply.with_reference(head.reference)
 }
 
 // The call: on bit blocks, or at the size of its elements. What has one size for all is made of b and d here: the indices

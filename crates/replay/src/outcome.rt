@@ -1,5 +1,6 @@
 // What a case comes to, from what its call gave back and left in the buffers.
 use crate::Wide;
+use access::Listed;
 use runs::Encoded;
 use stream::Head;
 use stream::Reply;
@@ -13,6 +14,11 @@ ghost use Rattle.stream.specs.Expected.{AsExpected};
 // The reply of encode, which gives back the number of runs.
 pub fn of_runs(encoded: Encoded) -> Reply {
     Reply::with_value(encoded.answer(), encoded.count() as u64)
+}
+
+// The reply of access by a list, which gives back the words of all its lookups.
+pub fn of_list(listed: Listed) -> Reply {
+    Reply::with_value(listed.answer(), listed.words())
 }
 
 // What comes of the case with this head, from what its call gave back and left in the buffers c and d.

@@ -4,6 +4,7 @@
 use crate::Wide;
 use crate::narrow::narrow_u64;
 use crate::narrow::widen_u64;
+use crate::outcome::of_list;
 use crate::outcome::of_runs;
 use access::t64::Single;
 use stream::Head;
@@ -61,7 +62,7 @@ fn reply(
         0 => Reply::of(packing::t64::pack(width, input, out)),
         1 => Reply::of(packing::t64::unpack(width, input, out)),
         2 => single(access::t64::unpack_single(width, input, head.index as usize)),
-        3 => Reply::of(access::t64::unpack_indices(width, input, indices, out)),
+        3 => of_list(access::t64::unpack_indices(width, input, indices, out)),
         4 => Reply::of(deltas::t64::delta(input, base, out)),
         5 => Reply::of(deltas::t64::undelta(input, base, out)),
         6 => Reply::of(deltas::t64::undelta_pack(width, input, base, out)),
@@ -75,9 +76,9 @@ fn reply(
     }
 }
 
-// Of a refused single access the value is 0.
+// Of a refused single access the value is 0. The count of words is given back as the reference.
 fn single(single: Single) -> Reply {
-    Reply::with_value(single.answer(), widen_u64(single.value()))
+    Reply::with_value(single.answer(), widen_u64(single.value())).with_reference(single.words())
 }
 
 // A count of the head, as a count of x's elements. The head's counts are within every buffer. The contract says so of

@@ -79,7 +79,7 @@ pub fn write(values: &[u64], output: &mut [u8]) -> Reply {
     of_written(writer::write(values, output))
 }
 
-// The reply of a call on a file. There is no count to give back as a reference yet.
+// The reply of a call on a file that gives back no reference.
 fn reply(answer: FileAnswer, value: u64) -> Reply
     ensures { λ r. ⌜ r ≡ Given (numberOf answer) (placeOf answer) value 0 ⌝ }
 {
@@ -91,9 +91,9 @@ fn reply(answer: FileAnswer, value: u64) -> Reply
     }
 }
 
-// Of a refused lookup the value is 0.
+// Of a refused lookup the value is 0. The count of words is given back as the reference.
 fn of_row(row: Row) -> Reply {
-    reply(row.answer(), row.value())
+    reply(row.answer(), row.value()).with_reference(row.words())
 }
 
 // Of a refused write the length is 0.

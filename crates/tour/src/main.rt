@@ -49,7 +49,10 @@ fn show_lookup(packed: &[u8; 384]) {
 fn look_up(width: usize, packed: &[u8; 384]) {
     let single = access::t8::unpack_single(width, packed, 256);
     match single {
-        Single::Value(x) => line(b"  ", wide(x), b" at ", 256),
+        Single::Value(x, n) => {
+            line(b"  ", wide(x), b" at ", 256);
+            line(b"  packed words that hold it: ", n, b" of ", 384);
+        }
         Single::Refused(answer) => show_answer(answer),
     }
 }
@@ -57,7 +60,7 @@ fn look_up(width: usize, packed: &[u8; 384]) {
 // A list of places of which the block does not have the third.
 fn show_list(packed: &[u8; 384]) {
     let mut output = [77u8; 3];
-    let answer = access::t8::unpack_indices(3, packed, &[0, 256, 1024], &mut output);
+    let answer = access::t8::unpack_indices(3, packed, &[0, 256, 1024], &mut output).answer();
     say(b"\nA stub asks for a list of places: 0, 256 and 1024. A block ends at 1023,\n");
     say(b"so the list is refused, and the place is that of the bad entry:\n");
     show_answer(answer);
@@ -138,7 +141,7 @@ fn sevens() -> [u64; 1024] {
 fn show_row(file: &[u8; 276], row: usize) {
     let found = files::row_at(file, row);
     match found {
-        Row::Value(x) => line(b"  ", x, b" in row ", row as u64),
+        Row::Value(x, _) => line(b"  ", x, b" in row ", row as u64),
         Row::Refused(answer) => show_file_answer(answer),
     }
 }

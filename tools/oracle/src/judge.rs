@@ -4,6 +4,7 @@
 //! and what it left is widened again. Its forms with a width at run time are called where it has
 //! them; of undelta_pack and for_pack it has only forms with a width fixed when compiled, so these
 //! are called by a `match` with an arm for each width. For bits its `scalar` functions are called.
+//! The one thing that the crate cannot say, how many words were read, comes from `words`.
 //!
 //! The crate's unsafe calls ask their caller for right lengths and for run numbers inside the
 //! dictionary. The assertions below ask for just that, so that a question which should have been
@@ -11,6 +12,7 @@
 
 use crate::call::{BLOCK, Call};
 use crate::stream::{A, Answer, B, C, D, Question};
+use crate::words;
 use fastlanes::{BitPacking, Delta, FastLanes, FoR, RLE, Transpose, scalar};
 use seq_macro::seq;
 use std::mem::MaybeUninit;
@@ -117,6 +119,7 @@ fn answer_at<E: Size>(q: &Question) -> Answer {
         number: 0,
         place: 0,
         value: 0,
+        words: words::read(q),
         c: q.buffers[C].clone(),
         d: q.buffers[D].clone(),
     };

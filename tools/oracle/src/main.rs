@@ -1,12 +1,14 @@
 //! The oracle: makes questions for the calls of the case stream, has the crate `fastlanes` answer
-//! them, and writes the cases to standard output; and checks the judge itself against document 01.
+//! them, and writes the cases to standard output; and checks the judge itself against documents 01
+//! and 02.
 //!
 //! The modules, from the ground up: `call` says what each call takes, `stream` how a case is
-//! written down, `rules` what is refused, `judge` asks the crate, `random`, `values` and
-//! `questions` make what is asked, `sweep`, `mixed` and `sample` choose it, `sink` has it answered
-//! and written.
+//! written down, `rules` what is refused, `words` how many words are read, `judge` asks the crate,
+//! `random`, `values` and `questions` make what is asked, `sweep`, `mixed` and `sample` choose it,
+//! `sink` has it answered and written. `selfcheck` and `check_words` hold the judge to the documents.
 
 mod call;
+mod check_words;
 mod judge;
 mod mixed;
 mod questions;
@@ -18,6 +20,7 @@ mod sink;
 mod stream;
 mod sweep;
 mod values;
+mod words;
 
 use call::{CALLS, Call};
 use sink::Sink;
@@ -27,7 +30,8 @@ const USAGE: &str = "\
 usage: oracle sweep [SEED]      every call at every size and width, and the edges
        oracle mixed SEED COUNT  so many random cases; the same seed gives the same bytes
        oracle sample            the small stream that the repository keeps
-       oracle selfcheck         the crate's answers and panics against document 01
+       oracle selfcheck         the crate's answers and panics against document 01, and the count
+                                of words that a lookup reads against the crate's packing
 
 The first three write a case stream to standard output.
   --ops LIST  only the calls with these numbers, as 0,1,2; all 15 without it

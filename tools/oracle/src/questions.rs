@@ -7,6 +7,7 @@ use crate::call::{BLOCK, Call, Role};
 use crate::random::Random;
 use crate::stream::{A, B, C, LIMIT, Question};
 use crate::values::{ENDS, End, KINDS, Kind, end, filler, values};
+use crate::words;
 
 /// What can vary between two questions of the same call, size and width.
 #[derive(Clone, Copy)]
@@ -98,6 +99,14 @@ fn read(q: &Question, role: Role, length: usize, shape: Shape, random: &mut Rand
 fn below(bound: usize, length: usize, random: &mut Random) -> Vec<u64> {
     let one = |_| random.below(bound as u64);
     (0..length).map(one).collect()
+}
+
+/// A place, in a random lane, of the first and of the last row that stands in two words.
+pub fn places_in_two(t: u32, width: u64, random: &mut Random) -> Vec<u64> {
+    let lanes = BLOCK as u64 / u64::from(t);
+    let rows = words::rows_in_two(t, width).into_iter();
+    rows.map(|row| words::place(row, random.below(lanes)))
+        .collect()
 }
 
 /// A change that gives a question one of the numbers 1 to 7.

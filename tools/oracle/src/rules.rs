@@ -20,8 +20,8 @@ const TESTS: [fn(&Question) -> Option<usize>; 7] = [
     run_number_beyond_dictionary,
 ];
 
-/// The answer of a refused case: the lowest number that applies, with its place, no value, and the
-/// lent buffers as they were. Nothing where no number applies.
+/// The answer of a refused case: the lowest number that applies, with its place, no value and no
+/// count, and the lent buffers as they were. Nothing where no number applies.
 pub fn refusal(q: &Question) -> Option<Answer> {
     let mut numbered = (1..).zip(TESTS);
     let (number, place) = numbered.find_map(|(number, test)| Some((number, test(q)?)))?;
@@ -29,6 +29,7 @@ pub fn refusal(q: &Question) -> Option<Answer> {
         number,
         place: place as u64,
         value: 0,
+        words: None,
         c: q.buffers[C].clone(),
         d: q.buffers[D].clone(),
     })

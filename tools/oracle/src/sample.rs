@@ -6,7 +6,7 @@
 //! stands at the small sizes: a case of u64 blocks has up to 24 kB, one of u8 blocks 3 kB.
 
 use crate::call::{BLOCK, Call, Role};
-use crate::questions::{Fault, PLAIN, Shape, accepted, faults, put, reasons};
+use crate::questions::{Fault, PLAIN, Shape, accepted, faults, places_in_two, put, reasons};
 use crate::random::Random;
 use crate::sink::Sink;
 use crate::stream::{B, C, Question};
@@ -88,9 +88,15 @@ fn edges(call: Call, t: u32, random: &mut Random, sink: &mut Sink) {
     }
 }
 
-/// Index 1023, and at width 0 indices that are no places, which are refused there too.
+/// Index 1023, at two widths the last row that stands in two words, and at width 0 indices that are
+/// no places, which are refused there too.
 fn places(t: u32, random: &mut Random, sink: &mut Sink) {
-    for (width, index) in [(3, 1023), (3, 256), (0, 1024), (0, u64::MAX)] {
+    let mut asked = vec![(3, 1023), (3, 256), (0, 1024), (0, u64::MAX)];
+    for width in [3, u64::from(t) - 1] {
+        let in_two = places_in_two(t, width, random);
+        asked.extend(in_two.last().map(|&index| (width, index)));
+    }
+    for (width, index) in asked {
         let mut q = accepted(Call::Single, t, width, PLAIN, random);
         q.index = index;
         sink.put(&q);

@@ -4,16 +4,18 @@
 //! its cases P5 to P11 (P1 to P4 are inside its calls), and the crate is shown to panic where
 //! document 01 says that it does. One line for each, `ok` or `FAILED`. What document 01 calls
 //! undefined in release is not run in release; where the program was built with debug assertions,
-//! the crate's own assertions are seen to catch it.
+//! the crate's own assertions are seen to catch it. The lines on the count of words, which is
+//! document 02's, come from `check_words`.
 
 use crate::call::{BLOCK, SIZES};
+use crate::check_words;
 use crate::judge::Size;
 use fastlanes::{BitPacking, Delta, FastLanes, FoR, RLE, scalar};
 use std::mem::MaybeUninit;
 use std::panic::{AssertUnwindSafe, catch_unwind, set_hook, take_hook};
 
 /// Whether something holds, and what.
-type Line = (bool, String);
+pub type Line = (bool, String);
 
 /// Prints the lines; true where none failed.
 pub fn selfcheck() -> bool {
@@ -27,6 +29,7 @@ pub fn selfcheck() -> bool {
         panics_at::<u64>(),
     ];
     lines.extend(at_each_size(&panics));
+    lines.extend(check_words::lines());
     if cfg!(debug_assertions) {
         lines.extend(debug_panics());
     }

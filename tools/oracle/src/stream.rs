@@ -32,9 +32,14 @@ pub struct Answer {
     pub number: u8,
     pub place: u64,
     pub value: u64,
+    /// The packed words that were read; nothing where the call says no count, as when it is refused.
+    pub words: Option<u64>,
     pub c: Vec<u64>,
     pub d: Vec<u64>,
 }
+
+/// What stands in the count's field where there is no count.
+const NO_COUNT: u64 = u64::MAX;
 
 /// 2^bits - 1, the greatest number of so many bits.
 pub fn top(bits: u32) -> u64 {
@@ -85,7 +90,7 @@ impl Question {
         let mut head = vec![self.call.number(), self.t as u8];
         head.extend(width.to_le_bytes());
         head.extend([answer.number, 0, 0, 0]);
-        for field in [answer.place, answer.value, self.reference, self.index] {
+        for field in self.wide_fields(answer) {
             head.extend(field.to_le_bytes());
         }
         for buffer in &self.buffers {
@@ -96,6 +101,19 @@ impl Question {
             head.extend((buffer.len() as u32).to_le_bytes());
         }
         head
+    }
+
+    /// Place, value, reference and index. What was read stands where the stream has room for it: a
+    /// single access has its value in the one field, so its count stands in the reference; a list
+    /// has its values in c, so its sum stands in the value.
+    fn wide_fields(&self, answer: &Answer) -> [u64; 4] {
+        let (mut value, mut reference) = (answer.value, self.reference);
+        match self.call {
+            Call::Single => reference = answer.words.unwrap_or(NO_COUNT),
+            Call::List => value = answer.words.unwrap_or(0),
+            _ => {}
+        }
+        [answer.place, value, reference, self.index]
     }
 
     /// The elements of a buffer, each in the bytes that its role gives it.

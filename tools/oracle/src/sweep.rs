@@ -5,7 +5,7 @@
 //! same whichever other calls are asked for.
 
 use crate::call::{BLOCK, Call, Role};
-use crate::questions::{PLAIN, Shape, accepted, faults, put, reasons};
+use crate::questions::{PLAIN, Shape, accepted, faults, places_in_two, put, reasons};
 use crate::random::Random;
 use crate::sink::Sink;
 use crate::stream::{A, B, Question};
@@ -57,10 +57,12 @@ fn kinds(call: Call, t: u32, width: u64) -> Vec<Kind> {
     kinds
 }
 
-/// Single access at the first and last places and two others; at width 0 also at indices that are
-/// no places, which the crate takes there and document 02, Item 2, refuses.
+/// Single access at the first place and the last, which is in the last row; at two others, and at the
+/// first and last row that stands in two words, where there is one. At width 0 also at indices that
+/// are no places, which the crate takes there and document 02, Item 2, refuses.
 fn places(t: u32, width: u64, random: &mut Random, sink: &mut Sink) {
     let mut indices = vec![0, 1023, random.below(1024), random.below(1024)];
+    indices.extend(places_in_two(t, width, random));
     if width == 0 {
         indices.extend([1024, 1 << 32, u64::MAX]);
     }

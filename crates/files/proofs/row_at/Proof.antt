@@ -1,6 +1,6 @@
 -- `files::row_at` meets its contract: it is answered as one block out is, and its value is the one that this leaves at its place.
 -- Assumes nothing.
-use mathlib.Core.Path.{_≡_, refl, sym, ap, _∙_}
+use mathlib.Core.Path.{_≡_, refl, sym, ap, ap₂, _∙_}
 use Prim.Native.Nat.{_/_, _%_}
 use denote.Ref.{now}
 use lib.ListN.{getD, replicate}
@@ -10,7 +10,8 @@ use Rattle.contents.specs.Answers.{fileAnswer, left}
 use Rattle.contents.proofs.Answers.{number-done}
 use Rattle.files.specs.declared.Row.the-variants.{Value}
 use Rattle.files.specs.Files.{blockIn, blockTests, blockLeaves, rowAt}
-use Rattle.files.proofs.Calls.{row-as-block, row-refused, row-done}
+use Rattle.files.specs.Rows.{wordsIn, rowWords}
+use Rattle.files.proofs.Calls.{row-as-block, row-refused, row-entry, row-done}
 use Rattle.files.proofs.row_at.Statement.{statement}
 use Rattle.files.proofs.row_at.Tie as tie
 
@@ -37,16 +38,25 @@ mul-v c = search needs
 array-read-v : tie.Need-array-read-v
 array-read-v c = search needs
 
+entry-or-requires : tie.Need-entry-or-requires
+entry-or-requires c κs = search needs
+
+words-of-requires : tie.Need-words-of-requires
+words-of-requires c κs = search needs
+
 returns-2 : tie.Need-returns-2
-unfolding rowAt blockLeaves
+unfolding rowWords rowAt blockLeaves
 returns-2 c =
-    let out = c .before .before .before in
+    let out = c .before .before .before .before .before in
     let start = out .before .before .before in
     let l = now (start .args .file) in
     let p = start .args .p in
-    let done : fileAnswer (blockTests l (p / 1024) (replicate 1024 0)) ≡ Done = sym (out .block-out .ensures .0) ∙ number-done _ (sym (c .before .number .ensures) ∙ c .if1 .left) in
-    ap (λ block. Value (getD block (p % 1024) 0)) (out .block-out .ensures .1 ∙ ap (λ a. left a (blockIn l (p / 1024)) (replicate 1024 0)) done)
-    ∙ sym (row-done l p (row-as-block l p (replicate 1024 0) refl ∙ done))
+    let done : fileAnswer (blockTests l (p / 1024) (replicate 1024 0)) ≡ Done = sym (out .block-out .ensures .0) ∙ number-done _ (sym (c .before .before .before .number .ensures) ∙ c .before .before .if1 .left) in
+    let looked = row-as-block l p (replicate 1024 0) refl ∙ done in
+    ap₂ (λ block n. Value (getD block (p % 1024) 0) n)
+    (out .block-out .ensures .1 ∙ ap (λ a. left a (blockIn l (p / 1024)) (replicate 1024 0)) done)
+    (c .words-of .ensures ∙ ap (λ e. wordsIn e (p % 1024)) (c .before .entry-or .ensures ∙ row-entry l p looked))
+    ∙ sym (row-done l p looked)
 
 pub row-at-spec : {M : Type 1} → statement M
 row-at-spec =
@@ -58,4 +68,6 @@ row-at-spec =
     returns
     mul-v
     array-read-v
+    entry-or-requires
+    words-of-requires
     returns-2)

@@ -1,5 +1,6 @@
 -- Written by tools/sizes from the text of size 64: edit that one, and run tools/sizes.
--- `access::t16::look_up_all` meets its contract. The loop's invariant: the first i outputs hold the values at their indices.
+-- `access::t16::look_up_all` meets its contract. The loop's invariant: the first i outputs hold the values at their indices, and the sum is that
+-- of the first i counts.
 -- Assumes nothing.
 use mathlib.Core.Path.{_≡_, refl, sym, ap, _∙_}
 use Prim.Native.Nat.{ℕ, _-_, _≤_, zero-le}
@@ -13,17 +14,22 @@ use Rattle.places.proofs.Tabs.{Written, written-none, written-length, written-n
 use Rattle.places.specs.declared.Answer.{Answer}
 use Rattle.access.specs.declared.t16.Single.{Single}
 use Rattle.access.specs.declared.t16.Single.the-variants.{Value, Refused}
+use Rattle.access.specs.declared.Listed.the-variants.{Words}
 use Rattle.access.specs.Calls.{listOf}
+use Rattle.access.specs.Counts.{countAt}
 use Rattle.packing.specs.Packed.{valueAt}
+use Rattle.access.proofs.Counts.{Summed, summed-none, summed-next, summed-small, summed-all, list-unheld}
 use Rattle.access.proofs.t16.look_up_all.Statement.{statement}
 use Rattle.access.proofs.t16.look_up_all.Tie as tie
 
 abbrev Inv-loop : tie.InvT-loop
-Inv-loop width packed indices output₀ lane-by-place row-by-place i₀ output i =
-    (i ≤ length indices) × Written 0 i (λ i. valueAt t16 width packed (getD indices i 0)) output₀ output
+Inv-loop width packed indices output₀ lane-by-place row-by-place sum₀ i₀ output sum i =
+    (i ≤ length indices)
+    × Written 0 i (λ i. valueAt t16 width packed (getD indices i 0)) output₀ output
+    × Summed t16 width indices i sum
 
 abbrev μ-loop : tie.MeasureT-loop
-μ-loop width packed indices output₀ lane-by-place row-by-place i₀ output i = length indices - i
+μ-loop width packed indices output₀ lane-by-place row-by-place sum₀ i₀ output sum i = length indices - i
 
 lane-table-requires : tie.Need-lane-table-requires Inv-loop μ-loop
 lane-table-requires c κs = search needs
@@ -32,7 +38,7 @@ row-table-requires : tie.Need-row-table-requires Inv-loop μ-loop
 row-table-requires c κs = search needs
 
 loop-holds : tie.Need-loop-holds Inv-loop μ-loop
-loop-holds c = (search needs, written-none zero-le)
+loop-holds c = (search needs, written-none zero-le, summed-none t16 _ _)
 
 mul-look-up : tie.Need-mul-look-up Inv-loop μ-loop
 mul-look-up c = omega arith
@@ -46,9 +52,11 @@ look-up-requires c κs =
     let pre = tables .before .before .before .before .before .pre in
     (pre .0, (pre .1 .0, (tables .before .lane-table .ensures, tables .row-table .ensures)))
 
--- the single answer is the value, since its index was looked at before
+-- the single answer is the value and its count, since its index was looked at before
 answered : (c : tie.After-look-up Inv-loop μ-loop)
-    → c .look-up .result ≡ Value (valueAt t16 (c .before .before .before .before .before .before .before .before .before .before .before .args .width) (now (c .before .before .before .before .before .before .before .before .before .before .before .args .packed)) (getD (now (c .before .before .before .before .before .before .before .before .before .before .before .args .indices)) (c .before .before .before .before .before .loop .i) 0))
+    → let start = c .before .before .before .before .before .before .before .before .before .before .before in
+    let index = getD (now (start .args .indices)) (c .before .before .before .before .before .loop .i) 0 in
+    c .look-up .result ≡ Value (valueAt t16 (start .args .width) (now (start .args .packed)) index) (countAt t16 (start .args .width) index)
 answered c =
     let in-loop = c .before .before .before .before in
     let start = in-loop .before .before .before .before .before .before .before in
@@ -56,11 +64,11 @@ answered c =
     c .look-up .ensures ∙ rw good
 
 -- so it is no refusal
-never : (x : Single) (v : ℕ) (a : Answer) → x ≡ Value v → x ≡ Refused a → ⊥
-never x v a p q = let z : _≡_ {A = ℕ} 0 1 = cc in omega arith
+never : (x : Single) (v n : ℕ) (a : Answer) → x ≡ Value v n → x ≡ Refused a → ⊥
+never x v n a p q = let z : _≡_ {A = ℕ} 0 1 = cc in omega arith
 
-same-value : (x : Single) (v w : ℕ) → x ≡ Value v → x ≡ Value w → v ≡ w
-same-value x v w p q = cc
+same-value : (x : Single) (v w m n : ℕ) → x ≡ Value v m → x ≡ Value w n → (v ≡ w) × (m ≡ n)
+same-value x v w m n p q = (cc, cc)
 
 enum-known-found : tie.Need-enum-known-found Inv-loop μ-loop
 enum-known-found c = search needs
@@ -75,10 +83,10 @@ at-entry-requires : tie.Need-at-entry-requires Inv-loop μ-loop
 at-entry-requires c κs = search needs
 
 same-length : tie.Need-same-length Inv-loop μ-loop
-same-length c = absurd (never _ _ _ (answered (c .before .before .before .before)) (c .before .before .enum-told .given .1))
+same-length c = absurd (never _ _ _ _ (answered (c .before .before .before .before)) (c .before .before .enum-told .given .1))
 
 returns : tie.Need-returns Inv-loop μ-loop
-returns c = absurd (never _ _ _ (answered (c .before .before .before .before)) (c .before .before .enum-told .given .1))
+returns c = absurd (never _ _ _ _ (answered (c .before .before .before .before)) (c .before .before .enum-told .given .1))
 
 -- sizes: not at t8
 mul-output : tie.Need-mul-output Inv-loop μ-loop
@@ -89,6 +97,19 @@ mul-output c = omega arith
 slice-write-output : tie.Need-slice-write-output Inv-loop μ-loop
 slice-write-output c = omega (arith, written-length (c .before .before .before .before .before .before .before .before .loop .inv .1))
 
+-- what the entry gives is the value and the count
+gives : (c : tie.After-look-up Inv-loop μ-loop) (v n : ℕ) → c .look-up .result ≡ Value v n
+    → let start = c .before .before .before .before .before .before .before .before .before .before .before in
+    let index = getD (now (start .args .indices)) (c .before .before .before .before .before .loop .i) 0 in
+    (v ≡ valueAt t16 (start .args .width) (now (start .args .packed)) index) × (n ≡ countAt t16 (start .args .width) index)
+gives c v n e = same-value _ _ _ _ _ e (answered c)
+
+add-sum : tie.Need-add-sum Inv-loop μ-loop
+add-sum c =
+    let at-loop = c .before .before .before .before .before .before .before .before in
+    let next = summed-next (at-loop .loop .inv .2) _ (omega arith) (gives (c .before .before .before) _ _ (c .before .found .given .1) .1) in
+    omega (arith, summed-small next (omega arith))
+
 add-i : tie.Need-add-i Inv-loop μ-loop
 add-i c = omega arith
 
@@ -97,10 +118,11 @@ loop-less c = omega arith
 
 loop-again : tie.Need-loop-again Inv-loop μ-loop
 loop-again c =
-    let at-loop = c .before .before .before .before .before .before .before .before in (
+    let at-loop = c .before .before .before .before .before .before .before .before in
+    let gave = gives (c .before .before .before) _ _ (c .before .found .given .1) in (
       omega arith,
-      written-next (at-loop .loop .inv .1) _ _ (omega arith) (sym (zero-add _))
-          (same-value _ _ _ (c .before .found .given .1) (answered (c .before .before .before))),
+      written-next (at-loop .loop .inv .1) _ _ (omega arith) (sym (zero-add _)) (gave .0),
+      summed-next (at-loop .loop .inv .2) _ (omega arith) (gave .1),
     )
 
 same-length-2 : tie.Need-same-length-2 Inv-loop μ-loop
@@ -108,7 +130,12 @@ same-length-2 c = written-length (c .before .loop .inv .1)
 
 returns-2 : tie.Need-returns-2 Inv-loop μ-loop
 unfolding listOf
-returns-2 c = (refl, written-all (c .before .loop .inv .1) _ (omega arith) (c .before .before .before .before .before .before .before .pre .1 .1 .0))
+returns-2 c =
+    let start = c .before .before .before .before .before .before .before in
+    let all = summed-all (c .before .loop .inv .2) (omega arith) in (
+      ap Words (all ∙ sym (list-unheld t16 _ (now (start .args .indices)) (omega arith))),
+      written-all (c .before .loop .inv .1) _ (omega arith) (start .pre .1 .1 .0),
+    )
 
 pub look-up-all-spec : {M : Type 1} → statement M
 look-up-all-spec =
@@ -130,6 +157,7 @@ look-up-all-spec =
     returns
     mul-output
     slice-write-output
+    add-sum
     add-i
     loop-less
     loop-again

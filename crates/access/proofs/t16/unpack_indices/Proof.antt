@@ -1,7 +1,7 @@
 -- Written by tools/sizes from the text of size 64: edit that one, and run tools/sizes.
 -- `access::t16::unpack_indices` meets its contract: each refusal by its test, and the rest is the lookups'.
 -- Assumes nothing.
-use mathlib.Core.Path.{_≡_, refl, subst, _∙_}
+use mathlib.Core.Path.{_≡_, refl, sym, ap, subst, _∙_}
 use Prim.Native.Nat.{_<_}
 use native.Mathlib.Omega.{arith}
 use denote.Ref.{now}
@@ -9,33 +9,34 @@ use lib.ListN.{length}
 use borrow.Author.Needs.{needs}
 use Rattle.places.specs.Search.{firstBeyond}
 use Rattle.places.specs.Sizes.{t16}
-use Rattle.places.proofs.Answers.{done}
+use Rattle.places.specs.Answers.{left}
 use Rattle.places.proofs.Search.{first-beyond-le}
-use Rattle.access.specs.Calls.{listLeaves}
+use Rattle.access.specs.Calls.{listed, listOf, listGives, listLeaves}
+use Rattle.access.specs.Counts.{listWords}
 use Rattle.access.proofs.Answers.{list-bad-width, list-bad-packed, list-bad-lists, list-bad-index, list-good, indices-good}
 use Rattle.access.proofs.t16.unpack_indices.Statement.{statement}
 use Rattle.access.proofs.t16.unpack_indices.Tie as tie
 
 returns : tie.Need-returns
-unfolding listLeaves
+unfolding listGives listLeaves
 returns c = rw (list-bad-width t16 _ _ _ _ (c .if1 .taken)) (refl, refl)
 
 mul-if2 : tie.Need-mul-if2
 mul-if2 c = search needs
 
 returns-2 : tie.Need-returns-2
-unfolding listLeaves
+unfolding listGives listLeaves
 returns-2 c = rw (list-bad-packed t16 _ _ _ _ (c .before .if1 .left) (c .if2 .taken)) (refl, refl)
 
 returns-3 : tie.Need-returns-3
-unfolding listLeaves
+unfolding listGives listLeaves
 returns-3 c = rw (list-bad-lists t16 _ _ _ _ (c .before .before .if1 .left) (c .before .if2 .left) (c .if3 .taken)) (refl, refl)
 
 first-beyond-requires : tie.Need-first-beyond-requires
 first-beyond-requires c κs = search needs
 
 returns-4 : tie.Need-returns-4
-unfolding listLeaves
+unfolding listGives listLeaves
 returns-4 c =
     let at = c .before in
     let start = at .before .before .before .before .before .before .before in
@@ -62,16 +63,19 @@ same-length : tie.Need-same-length
 same-length c = search needs
 
 returns-5 : tie.Need-returns-5
-unfolding listLeaves
+unfolding listGives listLeaves
 returns-5 c =
     let at = c .before .before .before .before in
     let start = at .before .before .before .before .before .before .before .before in
+    let w = start .args .width in
+    let packed = now (start .args .packed) in
+    let indices = now (start .args .indices) in
+    let output = now (start .args .output) in
     let gave = c .before .before .look-up-all .ensures in
-    let whole =
-    done _ _ _ _
-    (list-good t16 (start .args .width) (now (start .args .packed)) (now (start .args .indices)) (now (start .args .output)) (omega arith) (omega arith) (omega arith) (looked at))
-    (gave .1) in
-    (gave .0 ∙ whole .0, whole .1)
+    let good = sym (list-good t16 w packed indices output (omega arith) (omega arith) (omega arith) (looked at)) in (
+      gave .0 ∙ ap (λ a. listed a (listWords t16 w indices)) good,
+      gave .1 ∙ ap (λ a. left a (listOf t16 w packed indices) output) good,
+    )
 
 pub unpack-indices-spec : {M : Type 1} → statement M
 unpack-indices-spec =

@@ -1,0 +1,221 @@
+-- The laws of counts (document 02, Item 5): the words that hold a bit of a row are as many as its count says; and of sums of counts.
+-- Assumes nothing.
+use mathlib.Core.Bool.{Bool, true, false}
+use mathlib.Core.List.{List, [], _∷_, _++_}
+use mathlib.Core.Path.{_≡_, refl, sym, ap, _∙_, subst}
+use Prim.Native.Nat.{ℕ, zero, suc, _+_, _-_, _*_, _/_, _%_, _^_, _≤_, _<_, min}
+use native.Mathlib.Decide.{decLe}
+use native.Mathlib.Nat.{add-zero}
+use native.Mathlib.Numerals.{add-one}
+use native.Mathlib.Omega.{arith}
+use lib.Dec.{eqb, leb}
+use lib.ListN.{length, getD, take}
+use lib.Seq.{take-suc, take-all}
+use borrow.Author.Tests.{eq-eqb, ne-eqb, le-leb, lt-leb, le-ltb, lt-ltb}
+use Rattle.places.specs.Pick.{pick}
+use Rattle.places.specs.Places.{row}
+use Rattle.places.specs.Sizes.{Size}
+use Rattle.places.specs.Tab.{tab}
+use Rattle.places.proofs.Places.{each}
+use Rattle.places.proofs.Tabs.{length-tab, getD-tab}
+use Rattle.access.specs.Counts.{wordsRead, countAt, noCount, wordsAt, countsOf, sumOf, listWords}
+
+-- ---- one count
+
+module _ (t w r : ℕ) where
+  pub words-none : w ≡ 0 → wordsRead t w r ≡ 0
+  unfolding wordsRead
+  words-none e = simp (eq-eqb w 0 e)
+
+  pub words-one : (w ≡ 0 → ⊥) → r * w % t + w ≤ t → wordsRead t w r ≡ 1
+  unfolding wordsRead
+  words-one some h = simp (ne-eqb w 0 some, le-leb (r * w % t + w) t h)
+
+  pub words-two : (w ≡ 0 → ⊥) → t < r * w % t + w → wordsRead t w r ≡ 2
+  unfolding wordsRead
+  words-two some h = simp (ne-eqb w 0 some, lt-leb (r * w % t + w) t h)
+
+  pub words-small : wordsRead t w r ≤ 2
+  unfolding wordsRead
+  words-small = go (eqb w 0) (leb (r * w % t + w) t)
+    where
+      go : (none one : Bool) → pick none 0 (pick one 1 2) ≤ 2
+      go true one = omega arith
+      go false true = omega arith
+      go false false = omega arith
+
+-- where b bits after bit x stand, in words of t bits, if that is less than a word on
+Spread : ℕ → Type 0
+Spread t =
+    (x b w : ℕ) → b < w → w ≤ t
+    → (x / t ≤ (x + b) / t) × ((x + b) / t < x / t + 2) × (x % t + w ≤ t → (x + b) / t ≡ x / t)
+
+spread : {t : ℕ} → Size t → Spread t
+unfolding Spread
+spread s =
+    each Spread
+    (λ x b w h k. (omega arith, omega arith, λ one. omega arith))
+    (λ x b w h k. (omega arith, omega arith, λ one. omega arith))
+    (λ x b w h k. (omega arith, omega arith, λ one. omega arith))
+    (λ x b w h k. (omega arith, omega arith, λ one. omega arith))
+    s
+
+-- what does not end within its word has a bit at the next word's start
+Crossing : ℕ → Type 0
+Crossing t = (x w : ℕ) → w ≤ t → t < x % t + w → (t - x % t < w) × ((x + (t - x % t)) / t ≡ x / t + 1)
+
+crossing : {t : ℕ} → Size t → Crossing t
+unfolding Crossing
+crossing s =
+    each Crossing
+    (λ x w k two. (omega arith, omega arith))
+    (λ x w k two. (omega arith, omega arith))
+    (λ x w k two. (omega arith, omega arith))
+    (λ x w k two. (omega arith, omega arith))
+    s
+
+-- Word k of a lane holds a bit of its row r. Bit b of row r is bit r · w + b of the lane.
+pub record BitIn (t w r k : ℕ) : Type 0 where
+  pub bit : ℕ
+  pub within : bit < w
+  pub stands : (r * w + bit) / t ≡ k
+
+-- The words that hold a bit of row r are those from r · w / t on, as many as the count says: each of these holds one, and no other does.
+module _ {t : ℕ} (s : Size t) (w r k : ℕ) (hw : w ≤ t) where
+  pub bit-counted : BitIn t w r k → (r * w / t ≤ k) × (k < r * w / t + wordsRead t w r)
+  unfolding Spread
+  bit-counted in-k =
+      let b = in-k .bit in
+      let far = spread s (r * w) b w (in-k .within) hw in
+      let some : w ≡ 0 → ⊥ = λ e. omega (arith, in-k .within) in
+      elim (decLe (r * w % t + w) t) [
+        | yes one ↦ (
+          omega (arith, far .0, in-k .stands),
+          omega (arith, far .2 one, in-k .stands, words-one t w r some one),
+        )
+        | no two ↦ (
+          omega (arith, far .0, in-k .stands),
+          omega (arith, far .1, in-k .stands, words-two t w r some (omega arith)),
+        )
+      ]
+
+  -- the first word holds the row's first bit
+  first-bit : 0 < w → r * w / t ≡ k → BitIn t w r k
+  first-bit some e = record { bit = 0; within = some; stands = ap (λ x. x / t) (add-zero (r * w)) ∙ e }
+
+  -- and where the row crosses, the next word holds the bit at its start
+  next-bit : t < r * w % t + w → r * w / t + 1 ≡ k → BitIn t w r k
+  unfolding Crossing
+  next-bit two e =
+      let at = crossing s (r * w) w hw two in
+      record { bit = t - r * w % t; within = at .0; stands = at .1 ∙ e }
+
+  pub counted-bit : r * w / t ≤ k → k < r * w / t + wordsRead t w r → BitIn t w r k
+  counted-bit from to =
+      elim (decLe w 0) [
+        | yes none ↦ absurd (omega (arith, words-none t w r (omega arith)))
+        | no some ↦
+            elim (decLe k (r * w / t)) [
+              | yes first ↦ first-bit (omega arith) (omega arith)
+              | no later ↦
+                  elim (decLe (r * w % t + w) t) [
+                    | yes one ↦ absurd (omega (arith, words-one t w r (λ e. omega arith) one))
+                    | no two ↦ next-bit (omega arith) (omega (arith, words-small t w r))
+                  ]
+            ]
+      ]
+
+-- ---- a list of counts
+
+pub counts-length : (t w : ℕ) (indices : List ℕ) → length (countsOf t w indices) ≡ length indices
+unfolding countsOf
+counts-length t w indices = length-tab (length indices) _
+
+pub counts-at : (t w : ℕ) (indices : List ℕ) (i : ℕ) → i < length indices → getD (countsOf t w indices) i 0 ≡ countAt t w (getD indices i 0)
+unfolding countsOf
+counts-at t w indices i h = getD-tab (length indices) _ i 0 h
+
+pub counts-small : (t w : ℕ) (indices : List ℕ) (i : ℕ) → i < length indices → getD (countsOf t w indices) i 0 ≤ 2
+unfolding countAt
+counts-small t w indices i h = rw (counts-at t w indices i h) (words-small t w (row t (getD indices i 0)))
+
+-- ---- sums
+
+pub sum-append : (xs ys : List ℕ) → sumOf (xs ++ ys) ≡ sumOf xs + sumOf ys
+unfolding sumOf
+sum-append [] ys = omega arith
+sum-append (x ∷ xs) ys = let e : sumOf (xs ++ ys) ≡ sumOf xs + sumOf ys = sum-append xs ys in omega arith
+
+-- one entry more
+pub sum-next : (l : List ℕ) (i : ℕ) → i < length l → sumOf (take (i + 1) l) ≡ sumOf (take i l) + getD l i 0
+unfolding sumOf
+sum-next l i h = rw (add-one, take-suc l i 0 h, sum-append) (omega arith)
+
+-- where no entry is above 2 the sum of a front part is at most twice its length
+pub sum-small : (l : List ℕ) (k : ℕ) → ((i : ℕ) → i < length l → getD l i 0 ≤ 2) → k ≤ length l → sumOf (take k l) ≤ 2 * k
+unfolding sumOf
+sum-small l zero all h = omega arith
+sum-small l (suc k) all h =
+    let e : sumOf (take (k + 1) l) ≡ sumOf (take k l) + getD l k 0 = sum-next l k (omega arith) in
+    let f : sumOf (take (suc k) l) ≡ sumOf (take (k + 1) l) = ap (λ n. sumOf (take n l)) (sym (add-one k)) in
+    let r : sumOf (take k l) ≤ 2 * k = sum-small l k all (omega arith) in
+    omega (arith, e, f, r, all k (omega arith))
+
+-- A list reads the sum of its counts, and where that is no number of 64 bits the largest of them.
+pub list-held : (t w : ℕ) (indices : List ℕ)
+    → let sum = sumOf (countsOf t w indices) in
+    (sum < 2 ^ 64 → listWords t w indices ≡ sum) × (2 ^ 64 ≤ sum → listWords t w indices ≡ 2 ^ 64 - 1)
+unfolding listWords
+list-held t w indices = (λ h. omega arith, λ h. omega arith)
+
+-- A front part of a list of lookups reads at most two words for each,
+pub front-small : (t w : ℕ) (indices : List ℕ) (k : ℕ) → k ≤ length indices → sumOf (take k (countsOf t w indices)) ≤ 2 * k
+front-small t w indices k h =
+    let n = counts-length t w indices in
+    sum-small (countsOf t w indices) k (λ i b. counts-small t w indices i (omega arith)) (omega arith)
+
+-- and so a list of fewer than 2^63 indices never reaches the limit at which its sum would be held.
+pub list-unheld : (t w : ℕ) (indices : List ℕ) → length indices < 2 ^ 63 → listWords t w indices ≡ sumOf (countsOf t w indices)
+unfolding listWords
+list-unheld t w indices h =
+    let all = front-small t w indices (length indices) (omega arith) in
+    let e : take (length indices) (countsOf t w indices) ≡ countsOf t w indices = take-all (length indices) (countsOf t w indices) (omega (arith, counts-length t w indices)) in
+    let small : sumOf (countsOf t w indices) ≤ 2 * length indices = subst (λ l. sumOf l ≤ 2 * length indices) e all in
+    omega arith
+
+-- ---- a sum along a list of lookups
+
+-- After the first i lookups so many words are read.
+pub record Summed (t w : ℕ) (indices : List ℕ) (i sum : ℕ) : Type 0 where
+  pub is : sum ≡ sumOf (take i (countsOf t w indices))
+
+pub summed-none : (t w : ℕ) (indices : List ℕ) → Summed t w indices 0 0
+unfolding sumOf
+summed-none t w indices = record { is = refl }
+
+module _ {t w : ℕ} {indices : List ℕ} {i sum : ℕ} (so : Summed t w indices i sum) where
+  pub summed-next : (n : ℕ) → i < length indices → n ≡ countAt t w (getD indices i 0) → Summed t w indices (i + 1) (sum + n)
+  summed-next n h e =
+      let next = sum-next (countsOf t w indices) i (omega (arith, counts-length t w indices)) in
+      record { is = omega (arith, so .is, e, next, counts-at t w indices i h) }
+
+  pub summed-small : i ≤ length indices → sum ≤ 2 * i
+  summed-small h = omega (arith, so .is, front-small t w indices i h)
+
+  pub summed-all : length indices ≤ i → sum ≡ sumOf (countsOf t w indices)
+  summed-all h = so .is ∙ ap sumOf (take-all i (countsOf t w indices) (omega (arith, counts-length t w indices)))
+
+-- ---- the count at a place
+
+module _ (t w p : ℕ) where
+  pub no-width : t < w → noCount ≡ wordsAt t w p
+  unfolding wordsAt
+  no-width h = simp (lt-leb w t h)
+
+  pub no-place : w ≤ t → 1024 ≤ p → noCount ≡ wordsAt t w p
+  unfolding wordsAt
+  no-place h k = simp (le-leb w t h, le-ltb p 1024 k)
+
+  pub a-place : w ≤ t → p < 1024 → countAt t w p ≡ wordsAt t w p
+  unfolding wordsAt
+  a-place h k = simp (le-leb w t h, lt-ltb p 1024 k)

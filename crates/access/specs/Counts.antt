@@ -1,0 +1,43 @@
+-- How many packed words a lookup reads (document 02, Item 5), for one place and for a list of places.
+-- Assumes nothing.
+use mathlib.Core.List.{List, [], _∷_}
+use Prim.Native.Nat.{ℕ, _+_, _-_, _*_, _%_, _^_, min}
+use lib.Dec.{eqb, leb, ltb}
+use lib.ListN.{length, getD}
+use Rattle.places.specs.Pick.{pick, both}
+use Rattle.places.specs.Places.{row}
+use Rattle.places.specs.Tab.{tab}
+
+-- The bits of row r stand in this many packed words of its lane: in none at width 0, in one where they end within the word in which they
+-- begin, and else in two.
+unfoldable pub wordsRead : (t w r : ℕ) → ℕ
+wordsRead t w r = pick (eqb w 0) 0 (pick (leb (r * w % t + w) t) 1 2)
+
+-- The value at place p is that of its row.
+unfoldable pub countAt : (t w p : ℕ) → ℕ
+countAt t w p = wordsRead t w (row t p)
+
+-- The largest number of 64 bits stands for a count where there is none.
+abbrev pub noCount : ℕ
+noCount = 2 ^ 64 - 1
+
+-- There is a count where there are such a width and such a place.
+unfoldable pub wordsAt : (t w p : ℕ) → ℕ
+wordsAt t w p = pick (both (leb w t) (ltb p 1024)) (countAt t w p) noCount
+
+-- These are the counts of a list of indices, one for each.
+unfoldable pub countsOf : (t w : ℕ) (indices : List ℕ) → List ℕ
+countsOf t w indices = tab (length indices) (λ i. countAt t w (getD indices i 0))
+
+-- This is the sum of a list of numbers.
+unfoldable pub sumOf : List ℕ → ℕ
+sumOf [] = 0
+sumOf (x ∷ xs) = x + sumOf xs
+
+-- A sum that would pass the largest number of 64 bits is held there.
+abbrev pub held : ℕ → ℕ
+held n = min n (2 ^ 64 - 1)
+
+-- A list of indices reads this many words.
+unfoldable pub listWords : (t w : ℕ) (indices : List ℕ) → ℕ
+listWords t w indices = held (sumOf (countsOf t w indices))
