@@ -1,6 +1,6 @@
 -- What access to one place and by a list answers, by the tests that they make, over the element size.
 -- Assumes nothing.
-use mathlib.Core.Path.{_≡_, ap, ap₂}
+use mathlib.Core.Path.{_≡_, ap}
 use mathlib.Core.List.{List, [], _∷_}
 use Prim.Native.Nat.{ℕ, _*_, _≤_, _<_}
 use native.Mathlib.Omega.{arith}
@@ -23,9 +23,9 @@ unfolding answerFor
 index-in i h = simp (lt-ltb i 1024 h)
 
 -- an index within the block is answered with the value there and its count
-pub index-value : {S : Type 0} (value : ℕ → ℕ → S) (refused : Answer → S) (t w : ℕ) (packed : List ℕ) (i v n : ℕ) → i < 1024 → v ≡ valueAt t w packed i
-    → n ≡ countAt t w i → value v n ≡ single value refused (answerFor (an-index i ∷ [])) (valueAt t w packed i) (countAt t w i)
-index-value value refused t w packed i v n h e c = rw (index-in i h) (ap₂ value e c)
+pub index-value : {S : Type 0} (value : ℕ → ℕ → S) (refused : Answer → S) (t w : ℕ) (packed : List ℕ) (i : ℕ) → i < 1024
+    → value (valueAt t w packed i) (countAt t w i) ≡ single value refused (answerFor (an-index i ∷ [])) (valueAt t w packed i) (countAt t w i)
+index-value value refused t w packed i h = rw (index-in i h)
 
 -- an index past the block's end is refused
 pub index-past : {S : Type 0} (value : ℕ → ℕ → S) (refused : Answer → S) (i v n : ℕ) → 1024 ≤ i

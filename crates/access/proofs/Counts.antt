@@ -18,6 +18,7 @@ use Rattle.places.specs.Sizes.{Size}
 use Rattle.places.specs.Tab.{tab}
 use Rattle.places.proofs.Places.{each}
 use Rattle.places.proofs.Tabs.{length-tab, getD-tab}
+use Rattle.access.specs.InnerCounts.{firsts}
 use Rattle.access.specs.Counts.{wordsRead, countAt, noCount, wordsAt, countsOf, sumOf, listWords}
 
 -- ---- one count
@@ -43,6 +44,27 @@ module _ (t w r : ℕ) where
       go true one = omega arith
       go false true = omega arith
       go false false = omega arith
+
+-- ---- first words and second words
+
+firsts-next : (w i : ℕ) → firsts w (i + 1) ≡ firsts w i + firsts w 1
+firsts-next w i = go (eqb w 0)
+  where
+    go : (none : Bool) → pick none 0 (i + 1) ≡ pick none 0 i + pick none 0 1
+    go true = refl
+    go false = refl
+
+-- A lookup reads its first word, and where its count is 2 a second one.
+second-word : (t w r : ℕ) → wordsRead t w r ≡ firsts w 1 + pick (eqb (wordsRead t w r) 2) 1 0
+unfolding wordsRead
+second-word t w r = go (eqb w 0) (leb (r * w % t + w) t)
+  where
+    go : (none one : Bool) → pick none 0 (pick one 1 2) ≡ pick none 0 1 + pick (eqb (pick none 0 (pick one 1 2)) 2) 1 0
+    go true one = refl
+    go false true = refl
+    go false false = refl
+
+-- ---- the words that hold a bit
 
 -- where b bits after bit x stand, in words of t bits, if that is less than a word on
 Spread : ℕ → Type 0
@@ -174,14 +196,16 @@ front-small t w indices k h =
     let n = counts-length t w indices in
     sum-small (countsOf t w indices) k (λ i b. counts-small t w indices i (omega arith)) (omega arith)
 
+-- a whole list too,
+pub list-twice : (t w : ℕ) (indices : List ℕ) → sumOf (countsOf t w indices) ≤ 2 * length indices
+list-twice t w indices =
+    let e : take (length indices) (countsOf t w indices) ≡ countsOf t w indices = take-all (length indices) (countsOf t w indices) (omega (arith, counts-length t w indices)) in
+    subst (λ l. sumOf l ≤ 2 * length indices) e (front-small t w indices (length indices) (omega arith))
+
 -- and so a list of fewer than 2^63 indices never reaches the limit at which its sum would be held.
 pub list-unheld : (t w : ℕ) (indices : List ℕ) → length indices < 2 ^ 63 → listWords t w indices ≡ sumOf (countsOf t w indices)
 unfolding listWords
-list-unheld t w indices h =
-    let all = front-small t w indices (length indices) (omega arith) in
-    let e : take (length indices) (countsOf t w indices) ≡ countsOf t w indices = take-all (length indices) (countsOf t w indices) (omega (arith, counts-length t w indices)) in
-    let small : sumOf (countsOf t w indices) ≤ 2 * length indices = subst (λ l. sumOf l ≤ 2 * length indices) e all in
-    omega arith
+list-unheld t w indices h = let twice = list-twice t w indices in omega arith
 
 -- ---- a sum along a list of lookups
 
@@ -204,6 +228,41 @@ module _ {t w : ℕ} {indices : List ℕ} {i sum : ℕ} (so : Summed t w indices
 
   pub summed-all : length indices ≤ i → sum ≡ sumOf (countsOf t w indices)
   summed-all h = so .is ∙ ap sumOf (take-all i (countsOf t w indices) (omega (arith, counts-length t w indices)))
+
+-- The same where the second words alone are counted.
+pub record Seconds (t w : ℕ) (indices : List ℕ) (i seconds : ℕ) : Type 0 where
+  pub sum : Summed t w indices i (firsts w i + seconds)
+
+pub seconds-none : (t w : ℕ) (indices : List ℕ) → Seconds t w indices 0 0
+seconds-none t w indices = record { sum = subst (Summed t w indices 0) (nothing (eqb w 0)) (summed-none t w indices) }
+  where
+    nothing : (none : Bool) → 0 ≡ pick none 0 0 + 0
+    nothing true = refl
+    nothing false = refl
+
+module _ {t w : ℕ} {indices : List ℕ} {i seconds : ℕ} (so : Seconds t w indices i seconds) where
+  pub seconds-small : i ≤ length indices → seconds ≤ 2 * i
+  seconds-small h = omega (arith, summed-small (so .sum) h)
+
+  pub seconds-all : i ≡ length indices → firsts w (length indices) + seconds ≡ sumOf (countsOf t w indices)
+  seconds-all e = ap (λ n. firsts w n + seconds) (sym e) ∙ summed-all (so .sum) (omega arith)
+
+  module _ (n : ℕ) (h : i < length indices) (e : n ≡ countAt t w (getD indices i 0)) where
+    next-second : (m : ℕ) → m ≡ pick (eqb n 2) 1 0 → Seconds t w indices (i + 1) (seconds + m)
+    unfolding countAt
+    next-second m is =
+        let r = row t (getD indices i 0) in
+        let all = e ∙ second-word t w r ∙ ap (λ n. firsts w 1 + pick (eqb n 2) 1 0) (sym e) in
+        let same : firsts w i + seconds + n ≡ firsts w (i + 1) + (seconds + m) = omega (arith, firsts-next w i, all, is) in
+        record { sum = subst (Summed t w indices (i + 1)) same (summed-next (so .sum) n h e) }
+
+    -- a lookup of two words has a second one,
+    pub seconds-more : n ≡ 2 → Seconds t w indices (i + 1) (seconds + 1)
+    seconds-more two = next-second 1 (rw (eq-eqb n 2 two) refl)
+
+    -- and every other has none
+    pub seconds-same : (n ≡ 2 → ⊥) → Seconds t w indices (i + 1) seconds
+    seconds-same other = subst (Seconds t w indices (i + 1)) (add-zero seconds) (next-second 0 (rw (ne-eqb n 2 other) refl))
 
 -- ---- the count at a place
 

@@ -33,9 +33,11 @@ module _ {t : ℕ} (s : Size t) (i : ℕ) (h : i < 1024) (r : ℕ) (er : r ≡ g
     pub looked-range : (l < lanes t) × (r < t)
     looked-range = (subst (λ n. n < lanes t) (sym is-lane) (lane-lt s i h), row-range)
 
-    pub looked-value : (w : ℕ) (packed : List ℕ) → digit w (wordsNumber t w packed l) r ≡ valueAt t w packed i
-    unfolding valueAt
-    looked-value w packed = ap₂ (λ l r. digit w (wordsNumber t w packed l) r) is-lane is-row
+    -- what is read of the row in the lane is the value at the place, and its count
+    pub looked-value : {S : Type 0} (value : ℕ → ℕ → S) (w : ℕ) (packed : List ℕ)
+        → value (digit w (wordsNumber t w packed l) r) (wordsRead t w r) ≡ value (valueAt t w packed i) (countAt t w i)
+    unfolding valueAt countAt
+    looked-value value w packed = ap₂ (λ l r. value (digit w (wordsNumber t w packed l) r) (wordsRead t w r)) is-lane is-row
 
 -- a rule's entry is what the rule gives, and past the block's end it is 0
 module _ (rule : ℕ → ℕ) (p : ℕ) where

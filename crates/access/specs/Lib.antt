@@ -1,5 +1,6 @@
 pub mod Calls
 pub mod Counts
+pub mod InnerCounts
 pub mod InnerEntries
 pub mod InnerLookups
 pub mod t16

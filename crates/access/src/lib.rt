@@ -15,6 +15,7 @@ ghost use Rattle.places.specs.Places.{lane, row};
 ghost use Rattle.places.specs.Search.{firstBeyond};
 ghost use Rattle.places.specs.Sizes.{Size};
 ghost use Rattle.access.specs.Calls.{answerOf, wordsOf};
+ghost use Rattle.access.specs.InnerCounts.{firsts};
 ghost use Rattle.access.specs.InnerEntries.{atEntry};
 
 // A number of packed words: how many the bits of a value stand in, or the sum of these over a list (document 02, Item 5).
@@ -76,6 +77,16 @@ fn at_entry(answer: Answer, i: usize) -> Answer
         return Answer::Index(i);
     }
     answer
+}
+
+// The first words of so many lookups: none at width 0, and else one for each.
+fn first_words(width: usize, lookups: usize) -> Words
+    ensures { λ r. ⌜ r ≡ firsts width lookups ⌝ }
+{
+    if width == 0 {
+        return 0;
+    }
+    lookups as Words
 }
 
 // The lane of a place by arithmetic, at t bits an element.

@@ -1,6 +1,6 @@
 -- `access::t64::read_split` meets its contract: by the laws of one word and of two.
 -- Assumes nothing.
-use mathlib.Core.Path.{_≡_, ap, ap₂, _∙_}
+use mathlib.Core.Path.{_≡_, sym, ap, ap₂, _∙_}
 use mathlib.Core.Logic.{⊎-elim}
 use Prim.Native.Nat.{ℕ, _+_, _-_, _*_, _/_, _%_, _^_, _≤_, _<_}
 use native.Mathlib.Nat.{mul-le-mul}
@@ -14,6 +14,8 @@ use Rattle.places.specs.Sizes.{t64, lanes}
 use Rattle.places.proofs.Places.{size64}
 use Rattle.packing.specs.Packed.{word}
 use Rattle.packing.proofs.Turns.{word-room, first-word, next-word, value-one, value-two}
+use Rattle.access.specs.declared.t64.Single.the-variants.{Value}
+use Rattle.access.proofs.Counts.{words-one, words-two}
 use Rattle.access.proofs.t64.read_split.Statement.{statement}
 use Rattle.access.proofs.t64.read_split.Tie as tie
 
@@ -97,14 +99,20 @@ returns c =
     let r = start .args .r in
     let packed = now (start .args .packed) in
     let small : Elements t64 packed = λ i. omega (arith, known .shared-slice-known .given i) in
-    c .cut .ensures
-    ∙ ⊎-elim
+    let some : w ≡ 0 → ⊥ = λ e. omega (arith, start .pre .0 .0) in
+    ⊎-elim
     (λ two.
-    ap (λ v. v % 2 ^ w) (two .3 ∙ ap₂ bitOr (at-down .down .ensures) (two .2 .ensures))
+    ap₂ Value
+    (c .cut .ensures
+    ∙ ap (λ v. v % 2 ^ w) (two .3 ∙ ap₂ bitOr (at-down .down .ensures) (two .2 .ensures))
     ∙ value-two size64 w r (start .pre .1 .1 .1) (start .pre .0 .0) packed small (start .args .l) (start .pre .1 .1 .0) (omega arith) (two .0 .taken))
+    (two .4 ∙ sym (words-two t64 w r some (two .0 .taken))))
     (λ one.
-    ap (λ v. v % 2 ^ w) (one .1 ∙ at-down .down .ensures)
+    ap₂ Value
+    (c .cut .ensures
+    ∙ ap (λ v. v % 2 ^ w) (one .1 ∙ at-down .down .ensures)
     ∙ value-one size64 w r (start .pre .1 .1 .1) (start .pre .0 .0) packed small (start .args .l) (start .pre .1 .1 .0) (one .0 .left))
+    (one .2 ∙ sym (words-one t64 w r some (one .0 .left))))
     (c .before .if1 .came)
 
 pub read-split-spec : {M : Type 1} → statement M
