@@ -2,7 +2,6 @@
 -- place, and list access as single access entry by entry. Each law speaks of what the calls give and leave.
 -- Assumes nothing.
 use mathlib.Core.Path.{_≡_, refl, sym, ap, ap₂, _∙_}
-use mathlib.Core.Bool.{Bool, true, false}
 use mathlib.Core.List.{List}
 use Prim.Native.Nat.{ℕ, _*_, _≤_, _<_}
 use lib.ListN.{length, getD}
@@ -18,78 +17,46 @@ use Rattle.packing.specs.Calls.{unpackLeaves}
 use Rattle.packing.specs.Packed.{unpackOf, valueAt}
 use Rattle.packing.proofs.Answers.{good-block}
 use Rattle.packing.proofs.Rounds.{unpack-at}
+use Rattle.access.specs.declared.Listed.the-variants.{Words, Refused}
 use Rattle.access.specs.Calls.{single, singleTakes, singleOf, listTakes, listOf, listed, listGives, answerOf, wordsOf, listLeaves}
 use Rattle.access.specs.Counts.{countAt, noCount, countsOf, listWords}
-use Rattle.access.proofs.Answers.{single-good, index-in, list-good, list-bad-index, indices-good}
+use Rattle.access.proofs.Answers.{says-answer, says-number, single-good, index-in, list-good, list-bad-index, indices-good}
 
 -- What a list gives stands for the answer of the tests, and for the words where it is done.
 module _ (t w : ℕ) (packed indices output : List ℕ) where
   pub list-answers : answerOf (listGives t w packed indices output) ≡ answerFor (listTakes t w packed indices output)
   unfolding listGives
-  list-answers = reads (answerFor (listTakes t w packed indices output))
-    where
-      reads : (a : Answer) → answerOf (listed a (listWords t w indices)) ≡ a
-      reads Done = refl
-      reads Width = refl
-      reads Block = refl
-      reads Packed = refl
-      reads Base = refl
-      reads Lists = refl
-      reads (Index p) = refl
-      reads (Dictionary p) = refl
+  list-answers = says-answer _ Refused answerOf refl (λ _. refl) (answerFor (listTakes t w packed indices output))
 
   pub list-counts : wordsOf (listGives t w packed indices output) ≡ left (answerFor (listTakes t w packed indices output)) (listWords t w indices) 0
   unfolding listGives
-  list-counts = reads (answerFor (listTakes t w packed indices output))
-    where
-      reads : (a : Answer) → wordsOf (listed a (listWords t w indices)) ≡ left a (listWords t w indices) 0
-      reads Done = refl
-      reads Width = refl
-      reads Block = refl
-      reads Packed = refl
-      reads Base = refl
-      reads Lists = refl
-      reads (Index p) = refl
-      reads (Dictionary p) = refl
+  list-counts = says-number (Words (listWords t w indices)) Refused wordsOf 0 (λ _. refl) (answerFor (listTakes t w packed indices output))
 
 -- What an enum's two cases stand for, read back off the single answer, is the answer of the tests, and the value at the index where the call is
 -- done.
 module _ {S : Type 0} (value : ℕ → ℕ → S) (refused : Answer → S) (t w : ℕ) (packed : List ℕ) (index : ℕ) where
+  given : S
+  given = value (valueAt t w packed index) (countAt t w index)
+
   pub single-answers : (answer : S → Answer) → ((v n : ℕ) → answer (value v n) ≡ Done) → ((a : Answer) → answer (refused a) ≡ a)
       → answer (singleOf value refused t w packed index) ≡ answerFor (singleTakes t w packed index)
-  unfolding singleOf
-  single-answers answer ev er = reads (answerFor (singleTakes t w packed index))
-    where
-      reads : (a : Answer) → answer (single value refused a (valueAt t w packed index) (countAt t w index)) ≡ a
-      reads Done = ev (valueAt t w packed index) (countAt t w index)
-      reads Width = er Width
-      reads Block = er Block
-      reads Packed = er Packed
-      reads Base = er Base
-      reads Lists = er Lists
-      reads (Index p) = er (Index p)
-      reads (Dictionary p) = er (Dictionary p)
+  unfolding singleOf given
+  single-answers answer ev er = says-answer given refused answer (ev _ _) er (answerFor (singleTakes t w packed index))
 
   pub single-values : (read : S → ℕ) → ((v n : ℕ) → read (value v n) ≡ v) → ((a : Answer) → read (refused a) ≡ 0)
       → read (singleOf value refused t w packed index) ≡ left (answerFor (singleTakes t w packed index)) (valueAt t w packed index) 0
-  unfolding singleOf
-  single-values read ev er = reads (isDone (answerFor (singleTakes t w packed index)))
-    where
-      reads : (b : Bool)
-          → read (pick b (value (valueAt t w packed index) (countAt t w index)) (refused (answerFor (singleTakes t w packed index)))) ≡ pick b (valueAt t w packed index) 0
-      reads true = ev (valueAt t w packed index) (countAt t w index)
-      reads false = er (answerFor (singleTakes t w packed index))
+  unfolding singleOf given
+  single-values read ev er =
+      says-number given refused read 0 er (answerFor (singleTakes t w packed index))
+      ∙ ap (λ v. left (answerFor (singleTakes t w packed index)) v 0) (ev _ _)
 
   -- The count stands where the call is done, and a refused one has none.
   pub single-counts : (count : S → ℕ) → ((v n : ℕ) → count (value v n) ≡ n) → ((a : Answer) → count (refused a) ≡ noCount)
       → count (singleOf value refused t w packed index) ≡ left (answerFor (singleTakes t w packed index)) (countAt t w index) noCount
-  unfolding singleOf
-  single-counts count ev er = reads (isDone (answerFor (singleTakes t w packed index)))
-    where
-      reads : (b : Bool)
-          → count (pick b (value (valueAt t w packed index) (countAt t w index)) (refused (answerFor (singleTakes t w packed index)))) ≡ pick b (countAt t w index) noCount
-      reads true = ev (valueAt t w packed index) (countAt t w index)
-      reads false = er (answerFor (singleTakes t w packed index))
+  unfolding singleOf given
+  single-counts count ev er =
+      says-number given refused count noCount er (answerFor (singleTakes t w packed index))
+      ∙ ap (λ n. left (answerFor (singleTakes t w packed index)) n noCount) (ev _ _)
 
   pub single-value : answerFor (singleTakes t w packed index) ≡ Done → singleOf value refused t w packed index ≡ value (valueAt t w packed index) (countAt t w index)
   unfolding singleOf

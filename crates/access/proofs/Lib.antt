@@ -1,4 +1,5 @@
 pub mod Accesses
 pub mod Answers
+pub mod Budgets
 pub mod Counts
 pub mod Lookups

@@ -1,3 +1,4 @@
+pub mod Budgets
 pub mod Calls
 pub mod Counts
 pub mod InnerCounts

@@ -1,7 +1,7 @@
 // Access to a packed block of 1,024 values: at one place, and by a list of places. From the crate's src/bitpacking.rs. The width
 // is given at the call.
 //
-// What is the same at all four element sizes stands here: what a list of lookups gives, the search of a list for an index past the
+// What is the same at all four element sizes stands here: what a list of lookups gives, with a budget and without, the search of a list for an index past the
 // block's end, an entry's refusal as the list's, and the rules for the lane and the row of a place. Each size has a module of its own.
 pub mod t16;
 pub mod t32;
@@ -14,6 +14,7 @@ ghost use mathlib.Core.Path.{_≡_};
 ghost use Rattle.places.specs.Places.{lane, row};
 ghost use Rattle.places.specs.Search.{firstBeyond};
 ghost use Rattle.places.specs.Sizes.{Size};
+ghost use Rattle.access.specs.Budgets as Budgets;
 ghost use Rattle.access.specs.Calls.{answerOf, wordsOf};
 ghost use Rattle.access.specs.InnerCounts.{firsts};
 ghost use Rattle.access.specs.InnerEntries.{atEntry};
@@ -48,6 +49,45 @@ impl Listed {
         match self {
             Listed::Words(n) => n,
             Listed::Refused(_) => 0,
+        }
+    }
+}
+
+// What access by a list under a budget gives: how many lookups of the list's front it answered and how many words these read, or
+// the refusal.
+pub enum Afforded {
+    Front(usize, Words),
+    Refused(Answer),
+}
+
+impl Afforded {
+    // The answer in the terms of the other calls.
+    pub fn answer(self) -> Answer
+        ensures { λ r. ⌜ r ≡ Budgets.answerOf self ⌝ }
+    {
+        match self {
+            Afforded::Front(_, _) => Answer::Done,
+            Afforded::Refused(a) => a,
+        }
+    }
+
+    // How many lookups are answered; 0 after a refusal.
+    pub fn answered(self) -> usize
+        ensures { λ r. ⌜ r ≡ Budgets.answeredOf self ⌝ }
+    {
+        match self {
+            Afforded::Front(k, _) => k,
+            Afforded::Refused(_) => 0,
+        }
+    }
+
+    // The words that these read; 0 after a refusal.
+    pub fn words(self) -> Words
+        ensures { λ r. ⌜ r ≡ Budgets.wordsOf self ⌝ }
+    {
+        match self {
+            Afforded::Front(_, n) => n,
+            Afforded::Refused(_) => 0,
         }
     }
 }

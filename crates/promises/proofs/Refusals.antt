@@ -9,6 +9,7 @@ use Rattle.places.specs.Takes.{Taken, answerFor}
 use Rattle.places.specs.Transposes.{transposeTakes, transposeLeaves, untransposeLeaves}
 use Rattle.places.proofs.Answers.{left-refused}
 use Rattle.packing.specs.Calls.{packTakes, packLeaves, unpackLeaves}
+use Rattle.access.specs.Budgets.{withinLeaves}
 use Rattle.access.specs.Calls.{listTakes, listLeaves}
 use Rattle.deltas.specs.Calls.{deltaTakes, deltaLeaves, undeltaLeaves, undeltaPackTakes, undeltaPackLeaves, forPackLeaves, unforPackLeaves}
 use Rattle.runs.specs.Calls.{encodeTakes, dictionaryLeaves, indicesLeaves, decodeTakes, decodeLeaves}
@@ -47,6 +48,11 @@ pub list-refused : (t w : ℕ) (packed indices output : List ℕ) → Refused (l
     → listLeaves t w packed indices output ≡ output
 unfolding listLeaves
 list-refused t w packed indices output h = left-refused (answerFor (listTakes t w packed indices output)) _ output h
+
+pub within-refused : (t w : ℕ) (packed indices output : List ℕ) (budget : ℕ) → Refused (listTakes t w packed indices output)
+    → withinLeaves t w packed indices output budget ≡ output
+unfolding withinLeaves
+within-refused t w packed indices output budget h = left-refused (answerFor (listTakes t w packed indices output)) _ output h
 
 module _ (t : ℕ) (input base output : List ℕ) (h : Refused (deltaTakes t input base output)) where
   pub delta-refused : deltaLeaves t input base output ≡ output

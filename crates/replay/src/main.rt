@@ -114,13 +114,15 @@ fn case(head: Head) -> Step {
     judge(head, whole(head, reply), &c, &c_exit, &d, &d_exit)
 }
 
-// The reply with the reference that goes with it: single access gives back its count there, and to every other call the
-// reference is given.
+// The reply with the reference and the index that go with it. Single access gives back its count as the reference, and access
+// under a budget its words as the index; else they are what the call was given.
 fn whole(head: Head, reply: Reply) -> Reply {
-    if head.op == 2 {
-        return reply;
+    let op = head.op;
+    match op {
+        2 => reply.with_index(head.index),
+        23 => reply.with_reference(head.reference),
+        _ => reply.with_reference(head.reference).with_index(head.index),
     }
-    reply.with_reference(head.reference)
 }
 
 // The call: on bit blocks, or at the size of its elements. What has one size for all is made of b and d here: the indices

@@ -1,5 +1,6 @@
 // What a case comes to, from what its call gave back and left in the buffers.
 use crate::Wide;
+use access::Afforded;
 use access::Listed;
 use runs::Encoded;
 use stream::Head;
@@ -19,6 +20,11 @@ pub fn of_runs(encoded: Encoded) -> Reply {
 // The reply of access by a list, which gives back the words of all its lookups.
 pub fn of_list(listed: Listed) -> Reply {
     Reply::with_value(listed.answer(), listed.words())
+}
+
+// The reply of access by a list under a budget, which gives back how many lookups are answered, and their words as the index.
+pub fn of_front(afforded: Afforded) -> Reply {
+    Reply::with_value(afforded.answer(), afforded.answered() as u64).with_index(afforded.words())
 }
 
 // What comes of the case with this head, from what its call gave back and left in the buffers c and d.

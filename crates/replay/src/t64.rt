@@ -4,6 +4,7 @@
 use crate::Wide;
 use crate::narrow::narrow_u64;
 use crate::narrow::widen_u64;
+use crate::outcome::of_front;
 use crate::outcome::of_list;
 use crate::outcome::of_runs;
 use access::t64::Single;
@@ -72,6 +73,7 @@ fn reply(
         10 => Reply::of(runs::t64::decode(input, entries, out)),
         11 => Reply::of(places::t64::transpose(input, out)),
         12 => Reply::of(places::t64::untranspose(input, out)),
+        23 => of_front(access::t64::unpack_within(width, input, indices, head.reference, out)),
         _ => Reply::Unknown,
     }
 }

@@ -50,7 +50,7 @@ pub fn bytes_a(head: Head) -> usize {
 pub fn bytes_b(head: Head) -> usize {
     let op = head.op;
     match op {
-        3 => 8,
+        3 | 23 => 8,
         10 => 2,
         _ => bytes_of(head.t),
     }

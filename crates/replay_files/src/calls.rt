@@ -81,13 +81,14 @@ pub fn write(values: &[u64], output: &mut [u8]) -> Reply {
 
 // The reply of a call on a file that gives back no reference.
 fn reply(answer: FileAnswer, value: u64) -> Reply
-    ensures { λ r. ⌜ r ≡ Given (numberOf answer) (placeOf answer) value 0 ⌝ }
+    ensures { λ r. ⌜ r ≡ Given (numberOf answer) (placeOf answer) value 0 0 ⌝ }
 {
     Reply::Given {
         number: answer.number() as u64,
         place: answer.place() as u64,
         value,
         reference: 0,
+        index: 0,
     }
 }
 

@@ -118,7 +118,7 @@ fn case(head: Head, file: &mut [u8], numbers: &mut [u64], bytes: &mut [u8]) -> S
     }
 }
 
-// The case of a call that reads a file: a is the file, and c are numbers.
+// The case of a call that reads a file: a is the file, and c are numbers. No such call gives back an index.
 fn read_case(head: Head, a: &mut [u8], c: &mut [u64], bytes: &mut [u8]) -> Step {
     if !read_bytes(head.n_a, a) {
         return Step::Bad;
@@ -130,7 +130,7 @@ fn read_case(head: Head, a: &mut [u8], c: &mut [u64], bytes: &mut [u8]) -> Step 
         return Step::Bad;
     }
     let reply = call_on_parts(head, a, c);
-    judge(head, reply, c, bytes)
+    judge(head, reply.with_index(head.index), c, bytes)
 }
 
 // The case of a call that writes a file: a are the numbers, and c is the output.

@@ -28,16 +28,18 @@ module _ (head : Head) where
   -- where a case is the same, all of it is as expected
   pub step-same : (reply : Reply) (buffers : Bool) → stepOf head reply buffers ≡ Same → GivenAsExpected head reply × (buffers ≡ true)
   step-same Unknown buffers e = bad e
-  step-same (Given number place value reference) buffers e =
-      let all = both-true (isAsExpected head number place value reference) buffers (tested head _ e) in
+  step-same (Given number place value reference index) buffers e =
+      let all = both-true (isAsExpected head number place value reference index) buffers (tested head _ e) in
       let from-number = both-true _ _ (all .0) in
       let from-place = both-true _ _ (from-number .1) in
-      let from-value = both-true _ _ (from-place .1) in (
+      let from-value = both-true _ _ (from-place .1) in
+      let from-reference = both-true _ _ (from-value .1) in (
         (
           eqb-true number (head .number) (from-number .0),
           eqb-true place (head .place) (from-place .0),
           eqb-true value (head .value) (from-value .0),
-          eqb-true reference (head .reference) (from-value .1),
+          eqb-true reference (head .reference) (from-reference .0),
+          eqb-true index (head .index) (from-reference .1),
         ),
         all .1,
       )
@@ -45,12 +47,13 @@ module _ (head : Head) where
   -- and back
   pub same-step : (reply : Reply) (buffers : Bool) → GivenAsExpected head reply → buffers ≡ true → stepOf head reply buffers ≡ Same
   same-step Unknown buffers given left = absurd given
-  same-step (Given number place value reference) buffers given left =
+  same-step (Given number place value reference index) buffers given left =
       simp (
         eq-eqb number (head .number) (given .0),
         eq-eqb place (head .place) (given .1),
         eq-eqb value (head .value) (given .2),
         eq-eqb reference (head .reference) (given .3),
+        eq-eqb index (head .index) (given .4),
         left,
       )
 

@@ -12,7 +12,7 @@ ghost use lib.ListN.{length};
 ghost use Rattle.places.specs.Answers.{numberOf, placeOf};
 ghost use Rattle.little.specs.Little.{numbersOf};
 ghost use Rattle.stream.specs.Heads.{headOf};
-ghost use Rattle.stream.specs.Expected.{Agree, withReference, stepOf};
+ghost use Rattle.stream.specs.Expected.{Agree, withReference, withIndex, stepOf};
 ghost use Rattle.stream.specs.Tallies.{noCase, oneSame, oneDiffers};
 
 // The head of a record: the call, what is expected of it, what it takes besides the buffers, and how many elements
@@ -60,8 +60,8 @@ fn byte(x: u8) -> u64
     x as u64
 }
 
-// What a call gave back besides the buffers. The reference is one of the fields that are expected of some calls and that
-// others take: of a call that takes it the reply has it as it was given.
+// What a call gave back besides the buffers. The reference and the index are fields that are expected of some calls and that
+// others take: of a call that takes one the reply has it as it was given.
 pub enum Reply {
     // nothing, since there is no such call
     Unknown,
@@ -70,26 +70,28 @@ pub enum Reply {
         place: u64,
         value: u64,
         reference: u64,
+        index: u64,
     },
 }
 
 impl Reply {
     // The reply of a call that gives back no value.
     pub fn of(answer: Answer) -> Self
-        ensures { λ r. ⌜ r ≡ Reply.Given (numberOf answer) (placeOf answer) 0 0 ⌝ }
+        ensures { λ r. ⌜ r ≡ Reply.Given (numberOf answer) (placeOf answer) 0 0 0 ⌝ }
     {
         Self::with_value(answer, 0)
     }
 
     // The reply of a call that gives back a value.
     pub fn with_value(answer: Answer, value: u64) -> Self
-        ensures { λ r. ⌜ r ≡ Reply.Given (numberOf answer) (placeOf answer) value 0 ⌝ }
+        ensures { λ r. ⌜ r ≡ Reply.Given (numberOf answer) (placeOf answer) value 0 0 ⌝ }
     {
         Reply::Given {
             number: answer.number() as u64,
             place: answer.place() as u64,
             value,
             reference: 0,
+            index: 0,
         }
     }
 
@@ -104,11 +106,35 @@ impl Reply {
                 place,
                 value,
                 reference: _,
+                index,
             } => Reply::Given {
                 number,
                 place,
                 value,
                 reference,
+                index,
+            },
+        }
+    }
+
+    // The same reply with this index.
+    pub fn with_index(self, index: u64) -> Self
+        ensures { λ r. ⌜ r ≡ withIndex index self ⌝ }
+    {
+        match self {
+            Reply::Unknown => Reply::Unknown,
+            Reply::Given {
+                number,
+                place,
+                value,
+                reference,
+                index: _,
+            } => Reply::Given {
+                number,
+                place,
+                value,
+                reference,
+                index,
             },
         }
     }
@@ -133,12 +159,14 @@ pub fn judge(head: Head, reply: Reply, buffers: bool) -> Step
         place,
         value,
         reference,
+        index,
     } = reply
     else {
         return Step::Bad;
     };
     let given = (number == head.number)
-        & ((place == head.place) & ((value == head.value) & (reference == head.reference)));
+        & ((place == head.place)
+            & ((value == head.value) & ((reference == head.reference) & (index == head.index))));
     if given & buffers {
         return Step::Same;
     }

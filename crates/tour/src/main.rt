@@ -1,4 +1,4 @@
-// A tour in a screenful, for a person: a block is packed, a row is looked up, two calls are refused, a width does damage that is too
+// A tour in a screenful, for a person: a block is packed, a row is looked up, two calls are refused, a budget is kept, a width does damage that is too
 // narrow for its numbers, and a column file is written and read. The program reads nothing. What it must write stands in
 // crates/tour/stdout, worked out by hand from documents 01 and 02.
 use access::t8::Single;
@@ -14,6 +14,7 @@ fn main() {
     show_block(answer, &packed);
     show_lookup(&packed);
     show_list(&packed);
+    show_budget(&packed);
     show_widths();
     show_file();
 }
@@ -68,6 +69,18 @@ fn show_list(packed: &[u8; 384]) {
     line(b"  ", wide(output[0]), b" at ", 0);
     line(b"  ", wide(output[1]), b" at ", 1);
     line(b"  ", wide(output[2]), b" at ", 2);
+}
+
+// Two places under a budget of packed words that is enough for one of them.
+fn show_budget(packed: &[u8; 384]) {
+    let mut output = [77u8; 2];
+    let found = access::t8::unpack_within(3, packed, &[0, 256], 2, &mut output);
+    say(b"\nA stub asks for the places 0 and 256 with a budget of 2 packed words. The first\n");
+    say(b"stands in one word and the second in two, so only the first is answered:\n");
+    line(b"  lookups answered: ", found.answered() as u64, b" of ", 2);
+    line(b"  packed words read: ", found.words(), b" of ", 2);
+    line(b"  ", wide(output[0]), b" at ", 0);
+    line(b"  ", wide(output[1]), b" at ", 1);
 }
 
 // Numbers that a width is too narrow for. That is no refusal: they come back as others, and P8 is such a case.

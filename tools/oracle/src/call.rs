@@ -30,10 +30,12 @@ pub enum Call {
     Untranspose = 12,
     TransposeBits = 13,
     UntransposeBits = 14,
+    /// List access under a budget of words.
+    Budget = 23,
 }
 
-/// All calls, each at its own number.
-pub const CALLS: [Call; 15] = [
+/// All calls, in the order of their numbers.
+pub const CALLS: [Call; 16] = [
     Call::Pack,
     Call::Unpack,
     Call::Single,
@@ -49,6 +51,7 @@ pub const CALLS: [Call; 15] = [
     Call::Untranspose,
     Call::TransposeBits,
     Call::UntransposeBits,
+    Call::Budget,
 ];
 
 /// What a buffer is to its call.
@@ -95,13 +98,19 @@ impl Call {
         self as u8
     }
 
+    /// Where the call stands among all calls. The numbers have gaps, so it is not the number.
+    pub fn position(self) -> usize {
+        let found = CALLS.iter().position(|&call| call == self);
+        found.expect("every call stands among all calls")
+    }
+
     /// The roles of the buffers a, b, c and d. The call reads a and b, and writes c and d.
     pub fn roles(self) -> [Role; 4] {
         match self {
             Call::Pack | Call::ForPack => [Block, Absent, Packed, Absent],
             Call::Unpack | Call::UnforPack => [Packed, Absent, Block, Absent],
             Call::Single => [Packed, Absent, Absent, Absent],
-            Call::List => [Packed, Places, Outputs, Absent],
+            Call::List | Call::Budget => [Packed, Places, Outputs, Absent],
             Call::Delta | Call::Undelta => [Block, Base, Block, Absent],
             Call::UndeltaPack => [Packed, Base, Block, Absent],
             Call::Encode => [Block, Absent, Block, RunNumbers],

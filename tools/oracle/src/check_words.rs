@@ -1,11 +1,13 @@
-//! The part of the self-check that holds the count of words to what it counts.
+//! The part of the self-check that holds the count of words to what it counts, and the part of a
+//! list that a budget allows to what Item 6 says of it.
 //!
-//! Item 5's sentence is a formula. Here words are counted: once by going through a row's bits one at
-//! a time, and once by having the crate pack a value of ones among zeros and looking at its words.
+//! Item 5's sentence is a formula. Here words are counted: once by going through a row's bits one
+//! at a time, and once by having the crate pack a value of ones among zeros and looking at its
+//! words.
 
 use crate::call::{BLOCK, Call, SIZES};
 use crate::judge::Size;
-use crate::questions::{PLAIN, accepted};
+use crate::questions::{PLAIN, accepted, for_a_budget, with_budget};
 use crate::random::Random;
 use crate::selfcheck::Line;
 use crate::stream::B;
@@ -20,6 +22,8 @@ pub fn lines() -> Vec<Line> {
         counted_in_the_crate::<u64>(),
     ]);
     lines.extend(worked());
+    lines.push(worked_budgets());
+    lines.extend(SIZES.map(budgets_of_random_lists));
     lines
 }
 
@@ -98,4 +102,51 @@ fn sum_of_all_places() -> Option<u64> {
     let mut q = accepted(Call::List, 8, 3, PLAIN, &mut Random::new(0));
     q.buffers[B] = (0..BLOCK as u64).collect();
     words::read(&q)
+}
+
+/// How many of the rows of lane 0 are answered at T 8, W 3, whose counts are 1, 1, 2, 1, 1, 2, 1,
+/// 1, and how many words these read.
+fn worked_budgets() -> Line {
+    let mut q = accepted(Call::Budget, 8, 3, PLAIN, &mut Random::new(0));
+    q.buffers[B] = (0..8).map(|row| words::place(row, 0)).collect();
+    let worked = [
+        (0, (0, 0)),
+        (1, (1, 1)),
+        (2, (2, 2)),
+        (3, (2, 2)),
+        (4, (3, 4)),
+        (5, (4, 5)),
+        (7, (5, 6)),
+        (9, (7, 9)),
+        (10, (8, 10)),
+        (11, (8, 10)),
+        (u64::MAX, (8, 10)),
+    ];
+    let as_worked =
+        |&(budget, part): &(u64, (usize, u64))| words::affordable(&with_budget(&q, budget)) == part;
+    let what = "T 8, W 3: the rows of a lane under budgets of 0 to 11 words and of 2^64 - 1";
+    (worked.iter().all(as_worked), what.to_string())
+}
+
+/// Item 6's facts at each width, for a list with indices in one word and in two: what is answered
+/// costs at most the budget, and at most two words for each lookup; one lookup more would cost more
+/// than the budget; and a budget of twice the list's length answers all.
+fn budgets_of_random_lists(t: u32) -> Line {
+    let mut random = Random::new(t.into());
+    let mut holds = |width: u64| {
+        let q = for_a_budget(t, width, &mut random);
+        let enough = 2 * q.buffers[B].len() as u64;
+        (0..=enough + 1).all(|budget| {
+            let (answered, sum) = words::affordable(&with_budget(&q, budget));
+            let rest = &q.buffers[B][answered..];
+            let next = rest.first().map(|&index| words::count(t, width, index));
+            sum <= budget
+                && sum <= 2 * answered as u64
+                && next.is_none_or(|next| sum + next > budget)
+                && (budget < enough || rest.is_empty())
+        })
+    };
+    let all = (0..=u64::from(t)).all(&mut holds);
+    let what = format!("T {t}: at each width a budget allows the longest front part, and no more");
+    (all, what)
 }

@@ -4,7 +4,8 @@
 //! and what it left is widened again. Its forms with a width at run time are called where it has
 //! them; of undelta_pack and for_pack it has only forms with a width fixed when compiled, so these
 //! are called by a `match` with an arm for each width. For bits its `scalar` functions are called.
-//! The one thing that the crate cannot say, how many words were read, comes from `words`.
+//! What the crate cannot say, how many words are read and how much of a list a budget allows, comes
+//! from `words`.
 //!
 //! The crate's unsafe calls ask their caller for right lengths and for run numbers inside the
 //! dictionary. The assertions below ask for just that, so that a question which should have been
@@ -127,6 +128,7 @@ fn answer_at<E: Size>(q: &Question) -> Answer {
         Call::Pack | Call::Unpack | Call::ForPack | Call::UnforPack => done.c = pack::<E>(q),
         Call::Single => done.value = single::<E>(q),
         Call::List => done.c = list::<E>(q),
+        Call::Budget => (done.value, done.c) = list_within_budget::<E>(q),
         Call::Delta | Call::Undelta | Call::UndeltaPack => done.c = delta::<E>(q),
         Call::Encode => (done.value, done.c, done.d) = encode::<E>(q),
         Call::Decode => done.c = decode::<E>(q),
@@ -198,6 +200,19 @@ fn list<E: Size>(q: &Question) -> Vec<u64> {
         .into_iter()
         .map(|output| unsafe { output.assume_init() }.into())
         .collect()
+}
+
+/// List access under a budget: how many are answered, and the outputs afterwards. The crate has no
+/// such call. It is asked for the affordable front part, and sees the other outputs no more than
+/// the other indices.
+fn list_within_budget<E: Size>(q: &Question) -> (u64, Vec<u64>) {
+    let (answered, _) = words::affordable(q);
+    let mut front = q.clone();
+    front.buffers[B].truncate(answered);
+    front.buffers[C].truncate(answered);
+    let mut outputs = list::<E>(&front);
+    outputs.extend(&q.buffers[C][answered..]);
+    (answered as u64, outputs)
 }
 
 /// delta, undelta and undelta_pack: c afterwards.

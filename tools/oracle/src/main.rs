@@ -5,7 +5,8 @@
 //! The modules, from the ground up: `call` says what each call takes, `stream` how a case is
 //! written down, `rules` what is refused, `words` how many words are read, `judge` asks the crate,
 //! `random`, `values` and `questions` make what is asked, `sweep`, `mixed` and `sample` choose it,
-//! `sink` has it answered and written. `selfcheck` and `check_words` hold the judge to the documents.
+//! `sink` has it answered and written. `selfcheck` and `check_words` hold the judge to the
+//! documents.
 
 mod call;
 mod check_words;
@@ -34,7 +35,7 @@ usage: oracle sweep [SEED]      every call at every size and width, and the edge
                                 of words that a lookup reads against the crate's packing
 
 The first three write a case stream to standard output.
-  --ops LIST  only the calls with these numbers, as 0,1,2; all 15 without it
+  --ops LIST  only the calls with these numbers, as 0,1,2; all 16 without it
   --tally     say on standard error how many cases were written, for each call and in all
 
 Exit status: 0 done; 1 the stream could not be written, or a line of the self-check failed;
@@ -98,12 +99,9 @@ fn wanted(mut arguments: impl Iterator<Item = String>) -> Wanted {
 /// The calls of a list of numbers, as `0,1,2`.
 fn calls(list: &str) -> Vec<Call> {
     let call = |text: &str| {
-        let found = text
-            .trim()
-            .parse::<usize>()
-            .ok()
-            .and_then(|n| CALLS.get(n).copied());
-        found.unwrap_or_else(|| bad_usage("--ops wants numbers of calls, 0 to 14, as 0,1,2"))
+        let number = text.trim().parse::<u8>().ok();
+        let found = CALLS.into_iter().find(|call| Some(call.number()) == number);
+        found.unwrap_or_else(|| bad_usage("--ops wants numbers of calls, 0 to 14 and 23, as 0,1,2"))
     };
     list.split(',').map(call).collect()
 }

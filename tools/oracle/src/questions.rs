@@ -68,7 +68,52 @@ pub fn accepted(call: Call, t: u32, width: u64, shape: Shape, random: &mut Rando
     if call == Call::Single {
         q.index = random.below(BLOCK as u64);
     }
+    if call == Call::Budget {
+        let cut = random.between(0, q.buffers[B].len());
+        q.reference = random.pick(&budgets(&q, cut));
+    }
     q
+}
+
+/// The budgets that matter for a list: none, the least, the most; near the sum of the list's first
+/// `cut` lookups; near the sum of all; twice the list's length, which always is enough; and one
+/// that would be none if its high half were lost.
+pub fn budgets(q: &Question, cut: usize) -> Vec<u64> {
+    let mut budgets = near(words::sums(q)[cut]);
+    budgets.extend(near(words::sums(q)[q.buffers[B].len()]));
+    budgets.extend([0, 1, 2 * q.buffers[B].len() as u64, 1 << 32, u64::MAX]);
+    budgets.sort();
+    budgets.dedup();
+    budgets
+}
+
+/// One less than a sum of words, the sum, and one more.
+pub fn near(sum: u64) -> Vec<u64> {
+    let mut near = vec![sum.saturating_sub(1), sum, sum + 1];
+    near.dedup();
+    near
+}
+
+/// The place at which the list of `for_a_budget` has an index in two words.
+pub const CUT: usize = 7;
+
+/// A list of twelve indices for a budget. The one at `CUT` stands in two words where the width has
+/// such rows, so that a budget can be one word short of it.
+pub fn for_a_budget(t: u32, width: u64, random: &mut Random) -> Question {
+    let shape = Shape { list: 12, ..PLAIN };
+    let mut q = accepted(Call::Budget, t, width, shape, random);
+    if let Some(&index) = places_in_two(t, width, random).first() {
+        q.buffers[B][CUT] = index;
+    }
+    q
+}
+
+/// The question with that budget.
+pub fn with_budget(q: &Question, budget: u64) -> Question {
+    Question {
+        reference: budget,
+        ..q.clone()
+    }
 }
 
 /// The length at which no rule refuses a buffer of that role.
@@ -129,7 +174,7 @@ pub fn reasons(call: Call) -> Vec<u8> {
         2 => call.roles().into_iter().any(Role::is_block),
         4 => call.has(Role::Base),
         5 => call.has(Role::Outputs),
-        6 => matches!(call, Call::Single | Call::List),
+        6 => matches!(call, Call::Single | Call::List | Call::Budget),
         _ => call == Call::Decode,
     };
     (1..=7).filter(can_give).collect()

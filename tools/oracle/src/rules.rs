@@ -70,11 +70,12 @@ fn list_and_outputs_differ(q: &Question) -> Option<usize> {
 }
 
 /// 6: an index is 1024 or more. Of a list, the lowest such place; of a single access, 0. The crate
-/// does not look at an index at width 0; document 02, Item 2, asks for it at every width.
+/// does not look at an index at width 0; document 02, Item 2, asks for it at every width, and Item
+/// 6 for the entire list, whatever the budget is.
 fn index_1024_or_more(q: &Question) -> Option<usize> {
     let indices = match q.call {
         Call::Single => std::slice::from_ref(&q.index),
-        Call::List => &q.buffers[B],
+        Call::List | Call::Budget => &q.buffers[B],
         _ => &[],
     };
     indices.iter().position(|&index| index >= BLOCK as u64)

@@ -6,11 +6,13 @@
 //! stands at the small sizes: a case of u64 blocks has up to 24 kB, one of u8 blocks 3 kB.
 
 use crate::call::{BLOCK, Call, Role};
-use crate::questions::{Fault, PLAIN, Shape, accepted, faults, places_in_two, put, reasons};
+use crate::questions::{CUT, Fault, PLAIN, Shape, accepted, budgets, faults, for_a_budget};
+use crate::questions::{places_in_two, put, reasons, with_budget};
 use crate::random::Random;
 use crate::sink::Sink;
 use crate::stream::{B, C, Question};
 use crate::values::{ENDS, Kind};
+use crate::words;
 
 pub fn sample(call: Call, sink: &mut Sink) {
     let mut random = Random::new(2000 + u64::from(call.number()));
@@ -32,7 +34,7 @@ pub fn sample(call: Call, sink: &mut Sink) {
 
 /// Whether a case of that call and size is small enough for the sample to have many.
 fn is_small(call: Call, t: u32) -> bool {
-    t == 8 || matches!(call, Call::Single | Call::List)
+    t == 8 || matches!(call, Call::Single | Call::List | Call::Budget)
 }
 
 /// The edge widths: all four where a case is small. Where it is large, two or one of them, others
@@ -43,6 +45,9 @@ fn widths(call: Call, t: u32) -> Vec<u64> {
     let turn = (usize::from(call.number()) + t as usize / 64) % 2;
     match (call, t) {
         _ if !call.takes_width() => vec![0],
+        // A list under a budget has more widths among its edges.
+        (Call::Budget, 8 | 16) => vec![0, 1, high[1]],
+        (Call::Budget, _) => low.to_vec(),
         _ if is_small(call, t) => [low, high].concat(),
         (Call::Pack | Call::Unpack, 16) => [low, high].concat(),
         (Call::Pack | Call::Unpack, _) | (_, 16) => vec![low[turn], high[1 - turn]],
@@ -71,6 +76,7 @@ fn edges(call: Call, t: u32, random: &mut Random, sink: &mut Sink) {
         }
         (Call::Single, _) => places(t, random, sink),
         (Call::List, _) => lists(t, random, sink),
+        (Call::Budget, _) => lists_within_budgets(t, random, sink),
         (Call::Encode, 8) => {
             let kind = Kind::Alternating;
             sink.put(&accepted(call, t, 0, Shape { kind, ..PLAIN }, random));
@@ -111,6 +117,23 @@ fn lists(t: u32, random: &mut Random, sink: &mut Sink) {
     let mut q = accepted(Call::List, t, 0, PLAIN, random);
     q.buffers[B] = vec![1024, u64::MAX, 0, 1 << 32, 1023];
     sink.put(&q);
+}
+
+/// At width 3, where some rows stand in two words, every budget that matters, and no budget at all
+/// for a list whose last index is bad. At width 0 all is answered for nothing. One case is wide.
+fn lists_within_budgets(t: u32, random: &mut Random, sink: &mut Sink) {
+    let q = for_a_budget(t, 3, random);
+    for budget in budgets(&q, CUT) {
+        sink.put(&with_budget(&q, budget));
+    }
+    let mut bad = with_budget(&q, 0);
+    bad.buffers[B][11] = 1024;
+    sink.put(&bad);
+    sink.put(&with_budget(&for_a_budget(t, 0, random), 0));
+    let none = Shape { list: 0, ..PLAIN };
+    sink.put(&accepted(Call::Budget, t, 3, none, random));
+    let wide = for_a_budget(t, u64::from(t) - 1, random);
+    sink.put(&with_budget(&wide, words::sums(&wide)[CUT] + 1));
 }
 
 /// Each reason alone, with some of its faults; then the highest two at once, the highest three, and

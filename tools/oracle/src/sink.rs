@@ -26,7 +26,7 @@ impl Sink {
     /// Answers the question and writes the case.
     pub fn put(&mut self, q: &Question) {
         let answer = rules::refusal(q).unwrap_or_else(|| judge::answer(q));
-        self.tally[q.call.number() as usize][answer.number as usize] += 1;
+        self.tally[q.call.position()][answer.number as usize] += 1;
         match q.write(&answer, &mut self.out) {
             Ok(bytes) => self.bytes += bytes,
             Err(error) => stop(&error),
@@ -42,8 +42,8 @@ impl Sink {
 
     /// What was written, for each call and at the end in all, on standard error.
     pub fn print_tally(&self) {
-        for call in CALLS {
-            self.print_line(call, &self.tally[call.number() as usize]);
+        for (call, counts) in CALLS.into_iter().zip(&self.tally) {
+            self.print_line(call, counts);
         }
         let cases: u64 = self.tally.iter().flatten().sum();
         eprintln!("cases {cases} bytes {}", self.bytes);

@@ -15,6 +15,7 @@ pub struct Question {
     pub call: Call,
     pub t: u32,
     pub width: u64,
+    /// Of the frame calls; of list access under a budget, the budget.
     pub reference: u64,
     pub index: u64,
     /// The buffers a, b, c and d as they are at entry.
@@ -32,7 +33,8 @@ pub struct Answer {
     pub number: u8,
     pub place: u64,
     pub value: u64,
-    /// The packed words that were read; nothing where the call says no count, as when it is refused.
+    /// The packed words that were read; nothing where the call says no count, as when it is
+    /// refused.
     pub words: Option<u64>,
     pub c: Vec<u64>,
     pub d: Vec<u64>,
@@ -105,15 +107,17 @@ impl Question {
 
     /// Place, value, reference and index. What was read stands where the stream has room for it: a
     /// single access has its value in the one field, so its count stands in the reference; a list
-    /// has its values in c, so its sum stands in the value.
+    /// has its values in c, so its sum stands in the value. Under a budget the value says how many
+    /// were answered and the reference is the budget, so the sum stands in the index.
     fn wide_fields(&self, answer: &Answer) -> [u64; 4] {
-        let (mut value, mut reference) = (answer.value, self.reference);
+        let (mut value, mut reference, mut index) = (answer.value, self.reference, self.index);
         match self.call {
             Call::Single => reference = answer.words.unwrap_or(NO_COUNT),
             Call::List => value = answer.words.unwrap_or(0),
+            Call::Budget => index = answer.words.unwrap_or(0),
             _ => {}
         }
-        [answer.place, value, reference, self.index]
+        [answer.place, value, reference, index]
     }
 
     /// The elements of a buffer, each in the bytes that its role gives it.

@@ -5,11 +5,13 @@
 //! same whichever other calls are asked for.
 
 use crate::call::{BLOCK, Call, Role};
-use crate::questions::{PLAIN, Shape, accepted, faults, places_in_two, put, reasons};
+use crate::questions::{CUT, PLAIN, Shape, accepted, budgets, faults, for_a_budget, near};
+use crate::questions::{places_in_two, put, reasons, with_budget};
 use crate::random::Random;
 use crate::sink::Sink;
 use crate::stream::{A, B, Question};
 use crate::values::{ENDS, KINDS, Kind};
+use crate::words;
 
 /// The seed of a sweep that names none.
 pub const SEED: u64 = 1000;
@@ -30,6 +32,8 @@ fn every_width(call: Call, t: u32, width: u64, random: &mut Random, sink: &mut S
     match call {
         Call::Single => places(t, width, random, sink),
         Call::List => lists(t, width, random, sink),
+        // The values are those of list access, so there is no need for every kind of them.
+        Call::Budget => return lists_within_budgets(t, width, random, sink),
         Call::Decode => dictionaries(t, random, sink),
         Call::TransposeBits | Call::UntransposeBits => each_bit(call, t, random, sink),
         _ => {}
@@ -45,8 +49,7 @@ fn every_width(call: Call, t: u32, width: u64, random: &mut Random, sink: &mut S
 /// elsewhere random ones, two kinds in turn and, where values are packed, those at the width's own
 /// edges.
 fn kinds(call: Call, t: u32, width: u64) -> Vec<Kind> {
-    let t = u64::from(t);
-    if [0, 1, t - 1, t].contains(&width) || !call.takes_width() {
+    if is_edge(t, width) || !call.takes_width() {
         return KINDS.to_vec();
     }
     let turn = |i: u64| KINDS[((2 * width + i) % KINDS.len() as u64) as usize];
@@ -57,9 +60,14 @@ fn kinds(call: Call, t: u32, width: u64) -> Vec<Kind> {
     kinds
 }
 
-/// Single access at the first place and the last, which is in the last row; at two others, and at the
-/// first and last row that stands in two words, where there is one. At width 0 also at indices that
-/// are no places, which the crate takes there and document 02, Item 2, refuses.
+fn is_edge(t: u32, width: u64) -> bool {
+    let t = u64::from(t);
+    [0, 1, t - 1, t].contains(&width)
+}
+
+/// Single access at the first place and the last, which is in the last row; at two others, and at
+/// the first and last row that stands in two words, where there is one. At width 0 also at indices
+/// that are no places, which the crate takes there and document 02, Item 2, refuses.
 fn places(t: u32, width: u64, random: &mut Random, sink: &mut Sink) {
     let mut indices = vec![0, 1023, random.below(1024), random.below(1024)];
     indices.extend(places_in_two(t, width, random));
@@ -91,6 +99,43 @@ fn lists(t: u32, width: u64, random: &mut Random, sink: &mut Sink) {
         if width == 0 || list > BLOCK {
             put_each_fault(6, &q, random, sink);
         }
+    }
+}
+
+/// List access under a budget: at each width one less than what some lookups cost, just that, and
+/// one more, which is one word short of the next lookup where that one stands in two. At the edge
+/// widths every budget that matters, with a list of no index and one of all places too.
+fn lists_within_budgets(t: u32, width: u64, random: &mut Random, sink: &mut Sink) {
+    let q = for_a_budget(t, width, random);
+    if !is_edge(t, width) {
+        put_with_budgets(&q, near(words::sums(&q)[CUT]), sink);
+        return;
+    }
+    put_with_budgets(&q, budgets(&q, CUT), sink);
+    unaffordable_and_bad(&q, random, sink);
+    for list in [0, BLOCK] {
+        let shape = Shape { list, ..PLAIN };
+        let mut q = accepted(Call::Budget, t, width, shape, random);
+        if list == BLOCK {
+            q.buffers[B] = (0..BLOCK as u64).collect();
+            random.shuffle(&mut q.buffers[B]);
+        }
+        put_with_budgets(&q, budgets(&q, list / 3), sink);
+    }
+}
+
+/// The question once with each of these budgets.
+fn put_with_budgets(q: &Question, budgets: Vec<u64>, sink: &mut Sink) {
+    for budget in budgets {
+        sink.put(&with_budget(q, budget));
+    }
+}
+
+/// Bad indices in a list of which nothing or the front part up to `CUT` can be afforded, most of
+/// them past that part. The entire list is looked at all the same.
+fn unaffordable_and_bad(q: &Question, random: &mut Random, sink: &mut Sink) {
+    for budget in [0, words::sums(q)[CUT]] {
+        put_each_fault(6, &with_budget(q, budget), random, sink);
     }
 }
 

@@ -1,8 +1,9 @@
-//! How many packed words a lookup reads: document 02, Item 5, written down once.
+//! How many packed words a lookup reads, and how much of a list a budget allows: document 02, Items
+//! 5 and 6, written down once.
 //!
 //! The crate counts no words, so this module alone says what is expected of a count. It takes the
-//! row of an index from document 01's place formula, by trying the rows, and the count of a row from
-//! Item 5's sentence. The self-check holds both to the crate's own packing.
+//! row of an index from document 01's place formula, by trying the rows, and the count of a row
+//! from Item 5's sentence. The self-check holds both to the crate's own packing.
 
 use crate::call::{BLOCK, Call};
 use crate::stream::{B, Question};
@@ -11,25 +12,34 @@ use crate::stream::{B, Question};
 const ORDER: [u64; 8] = [0, 4, 2, 6, 1, 5, 3, 7];
 
 /// The words that an accepted question reads: of a single access its count, of a list access the
-/// sum. Nothing for the calls that say no count.
+/// sum, under a budget that of the part which is answered. Nothing for the calls that say no count.
 pub fn read(q: &Question) -> Option<u64> {
     match q.call {
         Call::Single => Some(count(q.t, q.width, q.index)),
-        Call::List => Some(sum(&counts(q))),
+        Call::List => sums(q).last().copied(),
+        Call::Budget => Some(affordable(q).1),
         _ => None,
     }
 }
 
-/// The count of each index of the list, in its order.
-fn counts(q: &Question) -> Vec<u64> {
-    let one = |&index: &u64| count(q.t, q.width, index);
-    q.buffers[B].iter().map(one).collect()
+/// Item 6: the length of the longest front part of the list whose counts sum to at most the budget,
+/// and that sum. The part of no lookup costs nothing, so there always is one.
+pub fn affordable(q: &Question) -> (usize, u64) {
+    let sums = sums(q);
+    let longest = sums.iter().rposition(|&sum| sum <= q.reference);
+    let longest = longest.expect("the part of no lookup is affordable");
+    (longest, sums[longest])
 }
 
-/// The sum, held at 2^64 - 1. No list of the stream is long enough to come near that.
-fn sum(counts: &[u64]) -> u64 {
-    let add = |sum: u64, &count: &u64| sum.saturating_add(count);
-    counts.iter().fold(0, add)
+/// The sum of the counts of each front part of the list, from that of no lookup to the entire list.
+/// It is held at 2^64 - 1; no list of the stream is long enough to come near that.
+pub fn sums(q: &Question) -> Vec<u64> {
+    let mut sums = vec![0u64];
+    for &index in &q.buffers[B] {
+        let before = sums[sums.len() - 1];
+        sums.push(before.saturating_add(count(q.t, q.width, index)));
+    }
+    sums
 }
 
 /// The words in which the bits of the value at that index stand.

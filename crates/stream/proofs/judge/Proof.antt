@@ -19,14 +19,14 @@ returns c = search needs
 
 returns-2 : tie.Need-returns-2
 returns-2 c =
-    let known = c .before .before .before .before .before .before in
+    let known = c .before .before .before .before .before .before .before in
     let args = known .before .before .args in
     sym (ap (λ r. stepOf (args .head) r (args .buffers)) (known .reply .given .1)
     ∙ ap (λ b. pick b Same (Differs (args .head))) (c .if1 .taken))
 
 returns-3 : tie.Need-returns-3
 returns-3 c =
-    let known = c .before .before .before .before .before .before in
+    let known = c .before .before .before .before .before .before .before in
     let args = known .before .before .args in
     sym (ap (λ r. stepOf (args .head) r (args .buffers)) (known .reply .given .1)
     ∙ ap (λ b. pick b Same (Differs (args .head))) (c .if1 .left))

@@ -123,9 +123,9 @@ loop-again c =
       omega arith,
       written-next (at-loop .loop .inv .1) _ _ (omega arith) (sym (zero-add _)) (gave .0),
       ⊎-elim
-      (λ two. subst (Seconds t64 _ _ _) (sym (two .1)) (seconds-more so _ (omega arith) (gave .1) (two .0 .taken)))
-      (λ one. subst (Seconds t64 _ _ _) (sym (one .1)) (seconds-same so _ (omega arith) (gave .1) (one .0 .left)))
-      (c .if1 .came),
+          (λ two. subst (Seconds t64 _ _ _) (sym (two .1)) (seconds-more so _ (omega arith) (gave .1) (two .0 .taken)))
+          (λ one. subst (Seconds t64 _ _ _) (sym (one .1)) (seconds-same so _ (omega arith) (gave .1) (one .0 .left)))
+          (c .if1 .came),
     )
 
 first-words-requires : tie.Need-first-words-requires Inv-loop μ-loop
