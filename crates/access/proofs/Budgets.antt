@@ -9,7 +9,7 @@ use native.Mathlib.Decide.{decLe}
 use native.Mathlib.Omega.{arith}
 use lib.Dec.{leb}
 use lib.ListN.{length, getD, take, drop}
-use lib.Seq.{take-add, take-all, length-take-le, getD-take}
+use lib.Seq.{take-add, take-all, length-take-le, getD-take, ext-getD}
 use borrow.Author.Tests.{le-leb, lt-leb, leb-true, leb-false}
 use Rattle.places.specs.declared.Answer.{Answer}
 use Rattle.places.specs.declared.Answer.the-variants.{Done}
@@ -18,9 +18,9 @@ use Rattle.places.specs.Pick.{pick}
 use Rattle.places.specs.Places.{row}
 use Rattle.places.specs.Tab.{tab, over}
 use Rattle.places.specs.Takes.{answerFor}
-use Rattle.places.proofs.Overs.{over-front}
+use Rattle.places.proofs.Overs.{over-front, over-rest}
 use Rattle.places.proofs.Search.{first-beyond-none}
-use Rattle.places.proofs.Tabs.{Written, tab-ext, length-tab, written-all}
+use Rattle.places.proofs.Tabs.{Written, tab-ext, length-tab, getD-tab, written-all}
 use Rattle.places.proofs.Tests.{false-true}
 use Rattle.packing.specs.Packed.{valueAt}
 use Rattle.access.specs.declared.Afforded.the-variants.{Front, Refused}
@@ -158,6 +158,23 @@ module _ (t w : ℕ) (indices : List ℕ) where
 
 -- ---- the outputs of a front part
 
+-- the front of a rule's entries are its first entries
+take-tab : (k n : ℕ) (f : ℕ → ℕ) → k ≤ n → take k (tab n f) ≡ tab k f
+take-tab k n f h =
+    let long : length (take k (tab n f)) ≡ k = length-take-le k (tab n f) (omega (arith, length-tab n f)) in
+    ext-getD 0 (take k (tab n f)) (tab k f) (long ∙ sym (length-tab k f))
+    (λ i b. getD-take k (tab n f) i 0 (omega arith) ∙ getD-tab n f i 0 (omega arith) ∙ sym (getD-tab k f i 0 (omega arith)))
+
+-- The words of the first k lookups are those of the list of the first k indices.
+pub front-alone : (t w : ℕ) (indices : List ℕ) (k : ℕ) → k ≤ length indices → frontWords t w indices k ≡ sumOf (countsOf t w (take k indices))
+unfolding frontWords countsOf
+front-alone t w indices k h =
+    let n : length (take k indices) ≡ k = length-take-le k indices h in
+    ap sumOf
+    (take-tab k (length indices) (λ i. countAt t w (getD indices i 0)) h
+    ∙ tab-ext k _ _ 0 (λ i b. ap (countAt t w) (sym (getD-take k indices i 0 b)))
+    ∙ ap (λ m. tab m (λ i. countAt t w (getD (take k indices) i 0))) (sym n))
+
 -- what is written for the first k indices is what access by these alone gives
 pub front-written : (t w : ℕ) (packed indices : List ℕ) (k : ℕ) → k ≤ length indices
     → tab k (λ i. valueAt t w packed (getD indices i 0)) ≡ listOf t w packed (take k indices)
@@ -242,7 +259,7 @@ module _ (t w : ℕ) (packed indices output : List ℕ) (budget : ℕ) where
   within-words = says-number (Front k (frontWords t w indices k)) Refused wordsOf 0 (λ _. refl) answer
 
   module _ (done : answerFor (listTakes t w packed indices output) ≡ Done) where
-    -- With all answered the outputs are those of the call without a budget, and the sum is its sum.
+    -- With all answered the outputs are those of the call without a budget, and for a budget of 64 bits, as every budget is, the sum is its sum.
     pub within-all : affordable t w indices budget ≡ length indices → budget < 2 ^ 64
         → (withinLeaves t w packed indices output budget ≡ listLeaves t w packed indices output)
         × (frontWords t w indices (affordable t w indices budget) ≡ listWords t w indices)
@@ -259,18 +276,35 @@ module _ (t w : ℕ) (packed indices output : List ℕ) (budget : ℕ) where
           ap sumOf counts ∙ sym (list-held t w indices .0 sum),
         )
 
-    -- The outputs of the front part are those of access by the front part alone.
-    pub within-front : take (affordable t w indices budget) (withinLeaves t w packed indices output budget)
-        ≡ listLeaves t w packed (take (affordable t w indices budget) indices) (take (affordable t w indices budget) output)
+    -- Access by the front part alone is done; the outputs of the front part are those that it leaves, and the words, for a budget of 64 bits, those
+    -- that it gives.
+    pub within-front : (answerFor (listTakes t w packed (take (affordable t w indices budget) indices) (take (affordable t w indices budget) output)) ≡ Done)
+        × (take (affordable t w indices budget) (withinLeaves t w packed indices output budget)
+        ≡ listLeaves t w packed (take (affordable t w indices budget) indices) (take (affordable t w indices budget) output))
+        × (budget < 2 ^ 64 → frontWords t w indices (affordable t w indices budget) ≡ listWords t w (take (affordable t w indices budget) indices))
     unfolding withinLeaves listLeaves k
     within-front =
         let given = list-taken t w packed indices output done in
         let part = affordable-part t w indices budget in
-        let long = length-take-le k indices part in
         let front = front-taken t w packed indices output k part given in
         let x = listOf t w packed (take k indices) in
-        let n : length x ≡ k = list-long t w packed (take k indices) ∙ long in
-        ap (λ a. take k (left a (over 0 x output) output)) done
-        ∙ ap (λ m. take m (over 0 x output)) (sym n)
-        ∙ over-front x output
-        ∙ sym (ap (λ a. left a x (take k output)) front)
+        let n : length x ≡ k = list-long t w packed (take k indices) ∙ length-take-le k indices part in
+        let words = front-alone t w indices k part in (
+          front,
+          ap (λ a. take k (left a (over 0 x output) output)) done
+              ∙ ap (λ m. take m (over 0 x output)) (sym n)
+              ∙ over-front x output
+              ∙ sym (ap (λ a. left a x (take k output)) front),
+          λ small. words ∙ sym (list-held t w (take k indices) .0 (omega (arith, words, affordable-within t w indices budget))),
+        )
+
+    -- The remaining outputs are unchanged.
+    pub within-rest : drop (affordable t w indices budget) (withinLeaves t w packed indices output budget) ≡ drop (affordable t w indices budget) output
+    unfolding withinLeaves k
+    within-rest =
+        let x = listOf t w packed (take k indices) in
+        let n : length x ≡ k = list-long t w packed (take k indices) ∙ length-take-le k indices (affordable-part t w indices budget) in
+        ap (λ a. drop k (left a (over 0 x output) output)) done
+        ∙ ap (λ m. drop m (over 0 x output)) (sym n)
+        ∙ over-rest x output
+        ∙ ap (λ m. drop m output) n

@@ -8,6 +8,7 @@ use native.Mathlib.Decide.{decLe}
 use native.Mathlib.Nat.{add-zero}
 use native.Mathlib.Numerals.{add-one}
 use native.Mathlib.Omega.{arith}
+use lib.Arith.{digits-lt}
 use lib.Dec.{eqb, leb}
 use lib.ListN.{length, getD, take}
 use lib.Seq.{take-suc, take-all}
@@ -19,7 +20,7 @@ use Rattle.places.specs.Tab.{tab}
 use Rattle.places.proofs.Places.{each}
 use Rattle.places.proofs.Tabs.{length-tab, getD-tab}
 use Rattle.access.specs.InnerCounts.{firsts}
-use Rattle.access.specs.Counts.{wordsRead, countAt, noCount, wordsAt, countsOf, sumOf, listWords}
+use Rattle.access.specs.Counts.{BitIn, wordsRead, countAt, noCount, wordsAt, countsOf, sumOf, listWords}
 
 -- ---- one count
 
@@ -66,7 +67,7 @@ second-word t w r = go (eqb w 0) (leb (r * w % t + w) t)
 
 -- ---- the words that hold a bit
 
--- where b bits after bit x stand, in words of t bits, if that is less than a word on
+-- bit x + b, for b below a width of at most t, stands in the word of bit x or in the next one
 Spread : ℕ → Type 0
 Spread t =
     (x b w : ℕ) → b < w → w ≤ t
@@ -96,11 +97,12 @@ crossing s =
     (λ x w k two. (omega arith, omega arith))
     s
 
--- Word k of a lane holds a bit of its row r. Bit b of row r is bit r · w + b of the lane.
-pub record BitIn (t w r k : ℕ) : Type 0 where
-  pub bit : ℕ
-  pub within : bit < w
-  pub stands : (r * w + bit) / t ≡ k
+-- A word that holds a bit of one of the lane's rows is one of its w words.
+pub bit-word : {t : ℕ} → Size t → (w r k : ℕ) → r < t → BitIn t w r k → k < w
+bit-word {t} s w r k h in-k =
+    subst (λ k. k < w) (in-k .stands)
+    (each (λ t. (x : ℕ) → x < t * w → x / t < w) (λ x b. omega arith) (λ x b. omega arith) (λ x b. omega arith) (λ x b. omega arith) s
+    (r * w + in-k .bit) (digits-lt h (in-k .within)))
 
 -- The words that hold a bit of row r are those from r · w / t on, as many as the count says: each of these holds one, and no other does.
 module _ {t : ℕ} (s : Size t) (w r k : ℕ) (hw : w ≤ t) where

@@ -30,16 +30,18 @@ frontWords t w indices k = sumOf (take k (countsOf t w indices))
 unfoldable pub affordable : (t w : ℕ) (indices : List ℕ) (budget : ℕ) → ℕ
 affordable t w indices budget = most (length indices) (λ k. leb (frontWords t w indices k) budget)
 
--- The call gives how many lookups it answered and how many words they read, or the refusal, which is that of access by a list.
+-- What is given by an answer are the two numbers where it is done, and else the refusal.
 abbrev pub afforded : (answer : Answer) (count words : ℕ) → Afforded
 afforded a k n = pick (isDone a) (Front k n) (Refused a)
 
+-- The call gives how many lookups it answered and how many words they read, or the refusal, which is that of access by the whole list.
 unfoldable pub withinGives : (t w : ℕ) (packed indices output : List ℕ) (budget : ℕ) → Afforded
 withinGives t w packed indices output budget =
     let k = affordable t w indices budget in
     afforded (answerFor (listTakes t w packed indices output)) k (frontWords t w indices k)
 
--- In front of its output it leaves what access by the list's front part gives, and the rest as it was.
+-- The outputs of the affordable front part hold what access by that part alone gives, and the others what they held; after a refusal all of them
+-- hold what they held.
 unfoldable pub withinLeaves : (t w : ℕ) (packed indices output : List ℕ) (budget : ℕ) → List ℕ
 withinLeaves t w packed indices output budget =
     left (answerFor (listTakes t w packed indices output)) (over 0 (listOf t w packed (take (affordable t w indices budget) indices)) output) output
@@ -49,12 +51,12 @@ abbrev pub answerOf : Afforded → Answer
 answerOf (Front k n) = Done
 answerOf (Refused a) = a
 
--- After a refusal no lookup is answered,
+-- This is how many lookups are answered, and 0 after a refusal.
 abbrev pub answeredOf : Afforded → ℕ
 answeredOf (Front k n) = k
 answeredOf (Refused a) = 0
 
--- and no word was read.
+-- This is how many words they read, and 0 after a refusal.
 abbrev pub wordsOf : Afforded → ℕ
 wordsOf (Front k n) = n
 wordsOf (Refused a) = 0

@@ -37,10 +37,11 @@ listTakes t w packed indices output = a-width t w ∷ a-packed t w packed ∷ tw
 unfoldable pub listOf : (t w : ℕ) (packed indices : List ℕ) → List ℕ
 listOf t w packed indices = tab (length indices) (λ i. valueAt t w packed (getD indices i 0))
 
--- Access by a list gives the words of all its lookups where it is done, and else the refusal.
+-- What is given by an answer are the words where it is done, and else the refusal.
 abbrev pub listed : (answer : Answer) (words : ℕ) → Listed
 listed a n = pick (isDone a) (Words n) (Refused a)
 
+-- Access by a list gives the words of all its lookups, or the refusal.
 unfoldable pub listGives : (t w : ℕ) (packed indices output : List ℕ) → Listed
 listGives t w packed indices output = listed (answerFor (listTakes t w packed indices output)) (listWords t w indices)
 
@@ -49,7 +50,7 @@ abbrev pub answerOf : Listed → Answer
 answerOf (Words n) = Done
 answerOf (Refused a) = a
 
--- After a refusal no word was read.
+-- After a refusal there is no sum, and 0 stands for it.
 abbrev pub wordsOf : Listed → ℕ
 wordsOf (Words n) = n
 wordsOf (Refused a) = 0

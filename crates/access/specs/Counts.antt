@@ -1,27 +1,36 @@
 -- How many packed words a lookup reads (document 02, Item 5), for one place and for a list of places.
 -- Assumes nothing.
 use mathlib.Core.List.{List, [], _∷_}
-use Prim.Native.Nat.{ℕ, _+_, _-_, _*_, _%_, _^_, min}
+use mathlib.Core.Path.{_≡_}
+use Prim.Native.Nat.{ℕ, _+_, _-_, _*_, _/_, _%_, _^_, _<_, min}
 use lib.Dec.{eqb, leb, ltb}
 use lib.ListN.{length, getD}
 use Rattle.places.specs.Pick.{pick, both}
 use Rattle.places.specs.Places.{row}
 use Rattle.places.specs.Tab.{tab}
 
--- The bits of row r stand in this many packed words of its lane: in none at width 0, in one where they end within the word in which they
--- begin, and else in two.
+-- At a width of at most t the bits of row r stand in this many packed words of its lane: in none at width 0, in one where they end within the
+-- word in which they begin, and else in two.
 unfoldable pub wordsRead : (t w r : ℕ) → ℕ
 wordsRead t w r = pick (eqb w 0) 0 (pick (leb (r * w % t + w) t) 1 2)
 
--- The value at place p is that of its row.
+-- The value at place p stands in as many words as the bits of its row do.
 unfoldable pub countAt : (t w p : ℕ) → ℕ
 countAt t w p = wordsRead t w (row t p)
 
--- The largest number of 64 bits stands for a count where there is none.
+-- Word k of a lane holds a bit of its row r: bit b of row r is bit r · w + b of the lane. That there are as many such words as the count says is
+-- a law.
+pub record BitIn (t w r k : ℕ) : Type 0 where
+  pub bit : ℕ
+  pub within : bit < w
+  pub stands : (r * w + bit) / t ≡ k
+
+-- The largest number of 64 bits stands for a count where there is none. A count is 0, 1 or 2, so it is never this number; a list's sum may be
+-- held at it, so 0 stands for the sum of a refused list.
 abbrev pub noCount : ℕ
 noCount = 2 ^ 64 - 1
 
--- There is a count where there are such a width and such a place.
+-- There is a count where the width is at most t and the place is below 1,024.
 unfoldable pub wordsAt : (t w p : ℕ) → ℕ
 wordsAt t w p = pick (both (leb w t) (ltb p 1024)) (countAt t w p) noCount
 

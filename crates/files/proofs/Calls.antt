@@ -13,12 +13,12 @@ use Rattle.places.specs.Pick.{pick}
 use Rattle.contents.specs.declared.FileAnswer.{FileAnswer}
 use Rattle.contents.specs.declared.FileAnswer.the-variants.{Done, Block, Beyond, Runs}
 use Rattle.contents.specs.Answers.{FileTest, a-number, passes, refusal, fileAnswer, numberOf, isDone, left}
-use Rattle.contents.specs.Contents.{count, entryOf, entryOr, contentsTests}
+use Rattle.contents.specs.Contents.{count, entryOf, entryOr, isLaidOut, contentsTests}
 use Rattle.contents.proofs.Answers.{passed, stopped, none-left, refusal-not-done, in-front-done, in-front-refused, number-done}
 use Rattle.files.specs.declared.Row.the-variants.{Value, Refused}
 use Rattle.files.specs.Files.{rowCount, rowAt, blockIn, fileTests, blockTests, blockLeaves, rowTests}
 use Rattle.files.specs.Rows.{rowWords, rowOf}
-use Rattle.files.proofs.Files.{goodIn, left-picked, entry-read}
+use Rattle.files.proofs.Files.{goodIn, left-picked, whole, entry-read}
 use Rattle.files.proofs.Others.{badBut, asked-bad, none-bad}
 
 -- Two tests that answer alike do so behind the same tests.
@@ -104,12 +104,19 @@ module _ (l : List ℕ) where
     pub row-refused : (a : FileAnswer) → fileAnswer (rowTests l p) ≡ a → (numberOf a ≡ 0 → ⊥) → rowOf l p ≡ Refused a
     row-refused a e n = row-is a e ∙ simp (ne-eqb (numberOf a) 0 n)
 
-    -- The entry of a row's block is read where the lookup is done.
-    pub row-entry : fileAnswer (rowTests l p) ≡ Done → entryOr l (p / 1024) ≡ entryOf l (p / 1024)
-    row-entry e =
-        let file = front-done (fileTests l) (a-number p (rowCount l) ∷ []) e in
-        let there = number-passed p (rowCount l) (rest-done (fileTests l) (a-number p (rowCount l) ∷ []) e) in
-        entry-read l (front-done (contentsTests l (length l)) _ file) (p / 1024) (omega arith)
+    -- Where the lookup is done the contents are right and the row's block is there, so its entry is read, and is as laid out.
+    module _ (e : fileAnswer (rowTests l p) ≡ Done) where
+      right : fileAnswer (contentsTests l (length l)) ≡ Done
+      right = front-done (contentsTests l (length l)) _ (front-done (fileTests l) (a-number p (rowCount l) ∷ []) e)
+
+      there : p / 1024 < count l
+      there = let h = number-passed p (rowCount l) (rest-done (fileTests l) (a-number p (rowCount l) ∷ []) e) in omega arith
+
+      pub row-entry : entryOr l (p / 1024) ≡ entryOf l (p / 1024)
+      row-entry = entry-read l right (p / 1024) there
+
+      pub row-laid : isLaidOut (entryOf l (p / 1024)) ≡ true
+      row-laid = whole l right .laid (p / 1024) there
 
     pub row-done : fileAnswer (rowTests l p) ≡ Done → rowOf l p ≡ Value (rowAt l p) (rowWords l p)
     row-done e = row-is Done e

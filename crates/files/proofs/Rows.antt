@@ -1,27 +1,37 @@
 -- The rows of a file (document 02, Item 1): an accepted file has exactly 1,024 rows for each block, row p is place p mod 1,024 of block p / 1,024,
 -- and the lookup of a row gives what one block out leaves at that place. Then the two worked files of Item 1.
 -- Assumes nothing.
+use mathlib.Core.Bool.{Bool, true, false}
 use mathlib.Core.List.{List, [], _∷_}
 use mathlib.Core.Path.{_≡_, refl, sym, ap, ap₂, _∙_}
-use Prim.Native.Nat.{ℕ, _+_, _*_, _/_, _%_, _^_, _<_}
+use Prim.Native.Nat.{ℕ, _+_, _*_, _/_, _%_, _^_, _≤_, _<_}
+use native.Mathlib.Decide.{decLe}
 use native.Mathlib.Omega.{arith}
 use lib.ListN.{length, getD}
+use borrow.Author.Tests.{lt-ltb, le-ltb}
+use Rattle.places.specs.Pick.{pick}
 use Rattle.places.specs.Numbers.{plus}
 use Rattle.places.specs.Sizes.{t64}
 use Rattle.places.specs.Tab.{tab, tabFrom}
 use Rattle.places.proofs.Tabs.{getD-tab, length-tab}
 use Rattle.packing.proofs.Rounds.{value-zero}
+use Rattle.access.specs.Counts.{countAt, noCount, wordsAt}
+use Rattle.access.proofs.Counts.{a-place}
 use Rattle.deltas.specs.Deltas.{unforPackOf}
 use Rattle.little.specs.Little.{little}
+use Rattle.contents.specs.declared.FileAnswer.{FileAnswer}
 use Rattle.contents.specs.declared.FileAnswer.the-variants.{Done}
-use Rattle.contents.specs.Answers.{fileAnswer, left}
+use Rattle.contents.specs.Answers.{fileAnswer, isDone, left}
+use Rattle.contents.proofs.Answers.{says-answer}
+use Rattle.contents.proofs.Laid.{laid-packed, laid-frame}
 use Rattle.contents.specs.Contents.{count, entryOf, isOfKind, isLaidOut, badEntry, bodiesSize, bodyStart}
 use Rattle.contents.specs.First.{firstFrom, firstBad}
 use Rattle.bodies.specs.Bodies.{blockOf, hasGoodRuns}
+use Rattle.files.specs.declared.Row.{Row}
 use Rattle.files.specs.declared.Row.the-variants.{Value, Refused}
-use Rattle.files.specs.Files.{badRuns, blockIn, rowCount, rowAt, rowsOf, fileTests, blockLeaves}
-use Rattle.files.specs.Rows.{rowWords, rowOf}
-use Rattle.files.proofs.Calls.{row-as-block, row-done, block-done}
+use Rattle.files.specs.Files.{badRuns, blockIn, rowCount, rowAt, rowsOf, fileTests, rowTests, blockLeaves}
+use Rattle.files.specs.Rows.{answerOf, valueOf, wordsOf, rowWords, rowOf}
+use Rattle.files.proofs.Calls.{row-as-block, row-laid, row-done, block-done}
 
 module _ (l : List ℕ) where
   -- A file has 1,024 rows for each of its blocks.
@@ -45,6 +55,50 @@ module _ (l : List ℕ) where
         looked ∙ ap (λ v. Value v (rowWords l p)) (sym (row-place p h)),
         looked ∙ ap (λ a. Value (getD (left a (blockIn l (p / 1024)) output) (p % 1024) 0) (rowWords l p)) (sym out),
       )
+
+-- What is read off the lookup of a row: the answer is that of its tests, the value is the row where it is done, and else 0, and so is the count,
+-- but for the number that stands for none.
+module _ (l : List ℕ) (p : ℕ) where
+  pub row-answers : answerOf (rowOf l p) ≡ fileAnswer (rowTests l p)
+  unfolding rowOf
+  row-answers = says-answer answerOf (Value (rowAt l p) (rowWords l p)) Refused refl (λ _. refl) (fileAnswer (rowTests l p))
+
+  -- by whether the call is done
+  read-off : (read : Row → ℕ) (none : ℕ) → ((a : FileAnswer) → read (Refused a) ≡ none)
+      → read (rowOf l p) ≡ left (fileAnswer (rowTests l p)) (read (Value (rowAt l p) (rowWords l p))) none
+  unfolding rowOf
+  read-off read none same = go (isDone (fileAnswer (rowTests l p)))
+    where
+      go : (b : Bool)
+          → read (pick b (Value (rowAt l p) (rowWords l p)) (Refused (fileAnswer (rowTests l p)))) ≡ pick b (read (Value (rowAt l p) (rowWords l p))) none
+      go true = refl
+      go false = same (fileAnswer (rowTests l p))
+
+  pub row-values : valueOf (rowOf l p) ≡ left (fileAnswer (rowTests l p)) (rowAt l p) 0
+  row-values = read-off valueOf 0 (λ _. refl)
+
+  pub row-counts : wordsOf (rowOf l p) ≡ left (fileAnswer (rowTests l p)) (rowWords l p) noCount
+  row-counts = read-off wordsOf noCount (λ _. refl)
+
+-- Of a row that is there, the count is that of single access at its place and at its block's width for kinds 0 and 1, and there is none for kinds 2
+-- and 3.
+module _ (l : List ℕ) (p : ℕ) (done : fileAnswer (rowTests l p) ≡ Done) where
+  pub row-packed : entryOf l (p / 1024) .kind < 2 → rowWords l p ≡ countAt t64 (entryOf l (p / 1024) .width) (p % 1024)
+  unfolding rowWords
+  row-packed kind =
+      let e = entryOf l (p / 1024) in
+      let laid = row-laid l p done in
+      let narrow : e .width ≤ 64 =
+      elim (decLe (e .kind) 0) [
+        | yes zero ↦ laid-packed e laid (omega arith) .0
+        | no one ↦ laid-frame e laid (omega arith) .0
+      ] in
+      ap (λ b. pick b (wordsAt t64 (e .width) (p % 1024)) noCount) (lt-ltb (e .kind) 2 kind)
+      ∙ sym (a-place t64 (e .width) (p % 1024) narrow (omega arith))
+
+  pub row-uncounted : 2 ≤ entryOf l (p / 1024) .kind → rowWords l p ≡ noCount
+  unfolding rowWords
+  row-uncounted kind = let e = entryOf l (p / 1024) in ap (λ b. pick b (wordsAt t64 (e .width) (p % 1024)) noCount) (le-ltb (e .kind) 2 kind)
 
 -- ---- the worked files
 

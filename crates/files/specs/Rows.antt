@@ -35,7 +35,7 @@ wordsOf (Refused a) = noCount
 abbrev pub wordsIn : (e : Entry) (place : ℕ) → ℕ
 wordsIn e place = pick (ltb (e .kind) 2) (wordsAt t64 (e .width) place) noCount
 
--- Row p stands in so many words of its block.
+-- This is the count of row p, or that there is none in a block of kind 2 or 3.
 unfoldable pub rowWords : (l : List ℕ) (p : ℕ) → ℕ
 rowWords l p = wordsIn (entryOf l (p / 1024)) (p % 1024)
 

@@ -145,7 +145,7 @@ fn lay_down(file: &[u8], b: usize, output: &mut [u64]) -> FileAnswer
     FileAnswer::Done
 }
 
-// The value at a file row and how many packed words its bits stand in, or the refusal.
+// The value at a file row and how many packed words its bits stand in, which is `NO_COUNT` for kinds 2 and 3; or the refusal.
 pub enum Row {
     Value(u64, Words),
     Refused(FileAnswer),
@@ -183,7 +183,7 @@ impl Row {
     }
 }
 
-// The value at row p of the file: place p mod 1,024 of block p / 1,024.
+// The value at row p of the file, place p mod 1,024 of block p / 1,024, and its count of packed words.
 pub fn row_at(file: &[u8], p: usize) -> Row
     ensures { λ r. ⌜ r ≡ rowOf (now (file .entry)) p ⌝ }
 {
