@@ -12,6 +12,7 @@ use Rattle.places.specs.Pick.{pick}
 use Rattle.places.specs.Search.{firstBeyond}
 use Rattle.places.specs.Sizes.{lanes}
 use Rattle.places.specs.Takes.{answerFor}
+use Rattle.places.proofs.Answers.{says-answer, says-number}
 use Rattle.places.proofs.Tabs.{getD-tab}
 use Rattle.packing.specs.Calls.{unpackLeaves}
 use Rattle.packing.specs.Packed.{unpackOf, valueAt}
@@ -20,7 +21,7 @@ use Rattle.packing.proofs.Rounds.{unpack-at}
 use Rattle.access.specs.declared.Listed.the-variants.{Words, Refused}
 use Rattle.access.specs.Calls.{single, singleTakes, singleOf, listTakes, listOf, listed, listGives, answerOf, wordsOf, listLeaves}
 use Rattle.access.specs.Counts.{countAt, noCount, countsOf, listWords}
-use Rattle.access.proofs.Answers.{says-answer, says-number, single-good, index-in, list-good, list-bad-index, indices-good}
+use Rattle.access.proofs.Answers.{single-good, index-in, list-good, list-bad-index, indices-good}
 
 -- What a list gives stands for the answer of the tests, and for the words where it is done.
 module _ (t w : ℕ) (packed indices output : List ℕ) where

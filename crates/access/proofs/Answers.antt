@@ -1,90 +1,21 @@
 -- What access to one place and by a list answers, by the tests that they make, over the element size.
 -- Assumes nothing.
-use mathlib.Core.Bool.{Bool, true, false}
-use mathlib.Core.Path.{_≡_, refl, sym, ap, _∙_}
+use mathlib.Core.Path.{_≡_, ap}
 use mathlib.Core.List.{List, [], _∷_}
-use Prim.Native.Nat.{ℕ, suc, _*_, _≤_, _<_}
+use Prim.Native.Nat.{ℕ, _*_, _≤_, _<_}
 use native.Mathlib.Omega.{arith}
 use lib.ListN.{length, getD}
 use borrow.Author.Tests.{le-leb, lt-leb, le-ltb, lt-ltb, eq-eqb, ne-eqb, leb-true, ltb-true, eqb-true}
 use Rattle.places.specs.declared.Answer.{Answer}
-use Rattle.places.specs.declared.Answer.the-variants.{Done, Width, Block, Packed, Base, Lists, Index, Dictionary}
-use Rattle.places.specs.Answers.{numberOf, isDone, left, unless}
-use Rattle.places.specs.Pick.{pick}
+use Rattle.places.specs.declared.Answer.the-variants.{Done, Width, Packed, Lists, Index}
 use Rattle.places.specs.Search.{firstBeyond}
 use Rattle.places.specs.Sizes.{lanes}
-use Rattle.places.specs.Takes.{Taken, a-width, a-block, a-packed, a-base, two-lists, an-index, an-index-list, dictionary-indices, passes, refusal, answerFor}
+use Rattle.places.specs.Takes.{a-width, a-packed, two-lists, an-index, an-index-list, answerFor}
+use Rattle.places.proofs.Answers.{first-passes}
 use Rattle.places.proofs.Search.{first-beyond-before}
 use Rattle.access.specs.Calls.{single, singleOf, listTakes}
 use Rattle.access.specs.Counts.{countAt}
 use Rattle.packing.specs.Packed.{valueAt}
-
--- ---- a list of tests that is done
-
--- the number of a refusal is not that of a call that is done
-number-apart : {n : ℕ} → suc n ≡ 0 → ⊥
-number-apart e = omega arith
-
-no-refusal : (x : Taken) → refusal x ≡ Done → ⊥
-no-refusal (a-width t w) e = number-apart (ap numberOf e)
-no-refusal (a-block values) e = number-apart (ap numberOf e)
-no-refusal (a-packed t w words) e = number-apart (ap numberOf e)
-no-refusal (a-base t starts) e = number-apart (ap numberOf e)
-no-refusal (two-lists list output) e = number-apart (ap numberOf e)
-no-refusal (an-index i) e = number-apart (ap numberOf e)
-no-refusal (an-index-list list) e = number-apart (ap numberOf e)
-no-refusal (dictionary-indices dictionary list) e = number-apart (ap numberOf e)
-
--- Where all tests pass, the first one does, and so do the others.
-first-passes : (x : Taken) (xs : List Taken) → answerFor (x ∷ xs) ≡ Done → (passes x ≡ true) × (answerFor xs ≡ Done)
-unfolding answerFor
-first-passes x xs e = go (passes x) refl e
-  where
-    go : (b : Bool) → passes x ≡ b → unless b (refusal x) (answerFor xs) ≡ Done → (passes x ≡ true) × (answerFor xs ≡ Done)
-    go true p e = (p, e)
-    go false p e = absurd (no-refusal x e)
-
--- ---- what is given by an answer
-
--- After a refusal it is what stands for the refusal, and where the call is done it is the other.
-module _ {S : Type 0} (given : S) (refused : Answer → S) (a b : Answer) (e : a ≡ b) where
-  pub by-refusal : (numberOf a ≡ 0 → ⊥) → refused a ≡ pick (isDone b) given (refused b)
-  by-refusal n = sym (ap (λ b. pick (isDone b) given (refused b)) (sym e) ∙ simp (ne-eqb (numberOf a) 0 n))
-
-  pub by-done : numberOf a ≡ 0 → given ≡ pick (isDone b) given (refused b)
-  by-done z = sym (ap (λ b. pick (isDone b) given (refused b)) (sym e) ∙ simp (eq-eqb (numberOf a) 0 z))
-
-pub number-done : (a : Answer) → numberOf a ≡ 0 → a ≡ Done
-number-done Done e = refl
-number-done Width e = absurd (number-apart e)
-number-done Block e = absurd (number-apart e)
-number-done Packed e = absurd (number-apart e)
-number-done Base e = absurd (number-apart e)
-number-done Lists e = absurd (number-apart e)
-number-done (Index p) e = absurd (number-apart e)
-number-done (Dictionary p) e = absurd (number-apart e)
-
--- What is read off it: the answer, where the one stands for an answer that is done and the other for the refusal,
-module _ {S : Type 0} (given : S) (refused : Answer → S) where
-  pub says-answer : (read : S → Answer) → read given ≡ Done → ((a : Answer) → read (refused a) ≡ a)
-      → (a : Answer) → read (pick (isDone a) given (refused a)) ≡ a
-  says-answer read done itself Done = done
-  says-answer read done itself Width = itself Width
-  says-answer read done itself Block = itself Block
-  says-answer read done itself Packed = itself Packed
-  says-answer read done itself Base = itself Base
-  says-answer read done itself Lists = itself Lists
-  says-answer read done itself (Index p) = itself (Index p)
-  says-answer read done itself (Dictionary p) = itself (Dictionary p)
-
-  -- and a number, where each refusal has the same.
-  pub says-number : (read : S → ℕ) (none : ℕ) → ((a : Answer) → read (refused a) ≡ none)
-      → (a : Answer) → read (pick (isDone a) given (refused a)) ≡ left a (read given) none
-  says-number read none same a = go (isDone a)
-    where
-      go : (b : Bool) → read (pick b given (refused a)) ≡ pick b (read given) none
-      go true = refl
-      go false = same a
 
 -- ---- single access
 

@@ -18,6 +18,7 @@ use Rattle.places.specs.Pick.{pick}
 use Rattle.places.specs.Places.{row}
 use Rattle.places.specs.Tab.{tab, over}
 use Rattle.places.specs.Takes.{answerFor}
+use Rattle.places.proofs.Answers.{says-answer, says-number}
 use Rattle.places.proofs.Overs.{over-front, over-rest}
 use Rattle.places.proofs.Search.{first-beyond-none}
 use Rattle.places.proofs.Tabs.{Written, tab-ext, length-tab, getD-tab, written-all}
@@ -27,7 +28,7 @@ use Rattle.access.specs.declared.Afforded.the-variants.{Front, Refused}
 use Rattle.access.specs.Budgets.{most, frontWords, affordable, withinGives, withinLeaves, answerOf, answeredOf, wordsOf}
 use Rattle.access.specs.Calls.{listTakes, listOf, listLeaves}
 use Rattle.access.specs.Counts.{countAt, countsOf, sumOf, listWords}
-use Rattle.access.proofs.Answers.{says-answer, says-number, index-within, list-good, Listable, list-taken}
+use Rattle.access.proofs.Answers.{index-within, list-good, Listable, list-taken}
 use Rattle.access.proofs.Counts.{words-small, counts-length, counts-at, sum-append, sum-next, list-held, front-small}
 
 -- ---- the greatest number that passes a test

@@ -1,12 +1,16 @@
--- A call that is done: what it answers, and what it leaves; and a call that is refused: what it leaves.
+-- What is given and left by an answer: of a call that is done, and of one that is refused. And a list of tests that all pass.
 -- Assumes nothing.
-use mathlib.Core.Path.{_≡_, sym, ap, _∙_}
-use mathlib.Core.List.{List}
-use Prim.Native.Nat.{ℕ}
-use borrow.Author.Tests.{ne-eqb}
+use mathlib.Core.Bool.{Bool, true, false}
+use mathlib.Core.List.{List, [], _∷_}
+use mathlib.Core.Path.{_≡_, refl, sym, ap, _∙_}
+use Prim.Native.Nat.{ℕ, suc}
+use native.Mathlib.Omega.{arith}
+use borrow.Author.Tests.{eq-eqb, ne-eqb}
 use Rattle.places.specs.declared.Answer.{Answer}
-use Rattle.places.specs.declared.Answer.the-variants.{Done}
-use Rattle.places.specs.Answers.{numberOf, left}
+use Rattle.places.specs.declared.Answer.the-variants.{Done, Width, Block, Packed, Base, Lists, Index, Dictionary}
+use Rattle.places.specs.Answers.{numberOf, isDone, left, unless, firstRefusal}
+use Rattle.places.specs.Pick.{pick}
+use Rattle.places.specs.Takes.{Taken, a-width, a-block, a-packed, a-base, two-lists, an-index, an-index-list, dictionary-indices, passes, refusal, answerFor}
 
 pub done : (a : Answer) (z new old : List ℕ) → a ≡ Done → z ≡ new → (Done ≡ a) × (z ≡ left a new old)
 done a z new old e f = (sym e, f ∙ sym (ap (λ b. left b new old) e))
@@ -14,3 +18,73 @@ done a z new old e f = (sym e, f ∙ sym (ap (λ b. left b new old) e))
 -- After every refusal, that is after every number but 0, a lent buffer holds what it held.
 pub left-refused : {A : Type 0} (a : Answer) (new old : A) → (numberOf a ≡ 0 → ⊥) → left a new old ≡ old
 left-refused a new old h = simp (ne-eqb (numberOf a) 0 h)
+
+-- the number of a refusal is not that of a call that is done
+pub number-apart : {n : ℕ} → suc n ≡ 0 → ⊥
+number-apart e = omega arith
+
+-- Done is the answer with number 0.
+pub number-done : (a : Answer) → numberOf a ≡ 0 → a ≡ Done
+number-done Done e = refl
+number-done Width e = absurd (number-apart e)
+number-done Block e = absurd (number-apart e)
+number-done Packed e = absurd (number-apart e)
+number-done Base e = absurd (number-apart e)
+number-done Lists e = absurd (number-apart e)
+number-done (Index p) e = absurd (number-apart e)
+number-done (Dictionary p) e = absurd (number-apart e)
+
+-- What is given by an answer: after a refusal what stands for the refusal, and where the call is done the other.
+module _ {S : Type 0} (given : S) (refused : Answer → S) (a b : Answer) (e : a ≡ b) where
+  pub by-refusal : (numberOf a ≡ 0 → ⊥) → refused a ≡ pick (isDone b) given (refused b)
+  by-refusal n = sym (ap (λ b. pick (isDone b) given (refused b)) (sym e) ∙ simp (ne-eqb (numberOf a) 0 n))
+
+  pub by-done : numberOf a ≡ 0 → given ≡ pick (isDone b) given (refused b)
+  by-done z = sym (ap (λ b. pick (isDone b) given (refused b)) (sym e) ∙ simp (eq-eqb (numberOf a) 0 z))
+
+-- What is read off it: the answer, where the one stands for an answer that is done and the other for the refusal,
+module _ {S : Type 0} (given : S) (refused : Answer → S) where
+  pub says-answer : (read : S → Answer) → read given ≡ Done → ((a : Answer) → read (refused a) ≡ a)
+      → (a : Answer) → read (pick (isDone a) given (refused a)) ≡ a
+  says-answer read done itself Done = done
+  says-answer read done itself Width = itself Width
+  says-answer read done itself Block = itself Block
+  says-answer read done itself Packed = itself Packed
+  says-answer read done itself Base = itself Base
+  says-answer read done itself Lists = itself Lists
+  says-answer read done itself (Index p) = itself (Index p)
+  says-answer read done itself (Dictionary p) = itself (Dictionary p)
+
+  -- and a number, where each refusal has the same.
+  pub says-number : (read : S → ℕ) (none : ℕ) → ((a : Answer) → read (refused a) ≡ none)
+      → (a : Answer) → read (pick (isDone a) given (refused a)) ≡ left a (read given) none
+  says-number read none same a = go (isDone a)
+    where
+      go : (b : Bool) → read (pick b given (refused a)) ≡ pick b (read given) none
+      go true = refl
+      go false = same a
+
+-- Where all tests of a list pass, the first one does, and so do the others, if its refusal is not what stands for a call that is done.
+pub first-passed : {X A : Type 0} (passes : X → Bool) (refusal : X → A) (done : A) (x : X) (xs : List X) → (refusal x ≡ done → ⊥)
+    → firstRefusal passes refusal done (x ∷ xs) ≡ done → (passes x ≡ true) × (firstRefusal passes refusal done xs ≡ done)
+first-passed passes refusal done x xs other e = go (passes x) refl e
+  where
+    go : (b : Bool) → passes x ≡ b → unless b (refusal x) (firstRefusal passes refusal done xs) ≡ done
+        → (passes x ≡ true) × (firstRefusal passes refusal done xs ≡ done)
+    go true p e = (p, e)
+    go false p e = absurd (other e)
+
+no-refusal : (x : Taken) → refusal x ≡ Done → ⊥
+no-refusal (a-width t w) e = number-apart (ap numberOf e)
+no-refusal (a-block values) e = number-apart (ap numberOf e)
+no-refusal (a-packed t w words) e = number-apart (ap numberOf e)
+no-refusal (a-base t starts) e = number-apart (ap numberOf e)
+no-refusal (two-lists list output) e = number-apart (ap numberOf e)
+no-refusal (an-index i) e = number-apart (ap numberOf e)
+no-refusal (an-index-list list) e = number-apart (ap numberOf e)
+no-refusal (dictionary-indices dictionary list) e = number-apart (ap numberOf e)
+
+-- So it is of what a call takes.
+pub first-passes : (x : Taken) (xs : List Taken) → answerFor (x ∷ xs) ≡ Done → (passes x ≡ true) × (answerFor xs ≡ Done)
+unfolding answerFor
+first-passes x xs e = first-passed passes refusal Done x xs (no-refusal x) e
