@@ -143,5 +143,7 @@ fn row_by_rule(t: usize, place: usize) -> usize
     ensures { λ r. ⌜ r ≡ row t place ⌝ }
 {
     let l = lane_by_rule(t, place);
-    order((place % 128 - l) / 16) * 8 + place / 128
+    let eighth = (place % 128 - l) / 16;
+    let first = order(eighth);
+    first * 8 + place / 128
 }

@@ -13,8 +13,8 @@ use Rattle.access.proofs.row_by_rule.Tie as tie
 lane-by-rule-requires : tie.Need-lane-by-rule-requires
 lane-by-rule-requires c κs = search needs
 
-sub-order : tie.Need-sub-order
-sub-order c = omega (arith, c .lane-by-rule .ensures, lane-within (c .before .pre) (c .before .args .place))
+sub-eighth : tie.Need-sub-eighth
+sub-eighth c = omega (arith, c .lane-by-rule .ensures, lane-within (c .before .pre) (c .before .args .place))
 
 order-requires : tie.Need-order-requires
 order-requires c κs = search needs
@@ -38,4 +38,4 @@ returns c =
 pub row-by-rule-spec : {M : Type 1} → statement M
 row-by-rule-spec =
     tie.close
-    (tie.spec lane-by-rule-requires sub-order order-requires mul-result add-result returns)
+    (tie.spec lane-by-rule-requires sub-eighth order-requires mul-result add-result returns)
