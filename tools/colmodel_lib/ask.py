@@ -1,6 +1,6 @@
 """A question for each call, made from what the call takes."""
-from . import build, writer
-from .stream import BLOCK_OUT, CHECK, ROW_LOOKUP, WRITE, Question
+from . import build, drawers, writer
+from .stream import BLOCK_OUT, CHECK, ROW_LOOKUP, UNPACK_BLOCKS, WRITE, Question
 
 
 def ask_check(name, data):
@@ -30,3 +30,23 @@ def ask_write(dice, name, values, room):
 def ask_to_fit(dice, name, values, more=0):
     """A write into an output that is as long as the file, or longer by that much, or shorter where it is below 0."""
     return ask_write(dice, name, values, len(writer.file_of(values)) + more)
+
+
+def ask_drawer(dice, op, name, t, width, blocks, given, room, reference=0):
+    """A call on a drawer: given is the bytes that it takes, and room the elements of its output, which are thrown."""
+    framed = "" if op == UNPACK_BLOCKS else f", reference {reference}"
+    said = f"{name}, T {t} width {width} M {blocks}{framed}, {len(given) * 8 // t} into {room}"
+    return Question(op, said, given, c=dice.bytes(room * t // 8), index=blocks, t=t, width=width, reference=reference)
+
+
+def ask_thrown(dice, op, name, t, width, blocks, values, packed):
+    """A call on a drawer with buffers of so many values and packed words. What they hold is thrown, and so is the
+    reference; so for_pack has values that do not fit the width."""
+    taken, room = (packed, values) if op == UNPACK_BLOCKS else (values, packed)
+    reference = 0 if op == UNPACK_BLOCKS else dice.below(2**t)
+    return ask_drawer(dice, op, name, t, width, blocks, dice.bytes(taken * t // 8), room, reference)
+
+
+def ask_fitting(dice, op, name, t, width, blocks):
+    """The same, with buffers as long as the call asks for."""
+    return ask_thrown(dice, op, name, t, width, blocks, *drawers.lengths(t, width, blocks))

@@ -1,11 +1,12 @@
 """Cases that nobody thought of: files of random blocks, some of them changed by accident, and random calls.
 
-Two cases of ten are writes, which mixed_writes.py makes, and one reads a file that the model wrote.
+Two cases of ten are writes, which mixed_writes.py makes, one reads a file that the model wrote, and one is a drawer,
+which mixed_drawers.py makes.
 
 Each case has dice of its own, made from the seed and the case's number. So case 17 of a seed is the same however many
 cases are written.
 """
-from . import build, files, mixed_writes, writer
+from . import build, files, mixed_drawers, mixed_writes, writer
 from .build import Dice, any_block, any_runs, column_file, with_index
 from .stream import BLOCK_OUT, CHECK, ROW_LOOKUP, Question
 
@@ -136,7 +137,11 @@ def written_file(dice):
 
 def case(seed, i):
     sort = Dice("mixed sort", seed, i).below(10)
-    return mixed_writes.case(seed, i) if sort < 2 else reading(seed, i, written_file if sort == 2 else some_file)
+    if sort < 2:
+        return mixed_writes.case(seed, i)
+    if sort == 3:
+        return mixed_drawers.case(seed, i)
+    return reading(seed, i, written_file if sort == 2 else some_file)
 
 
 def reading(seed, i, file_from):

@@ -1,23 +1,25 @@
 """Holds the model and the cases to what can be said of them without running any of the port.
 
 Each check is a function that gives the things that are not so, in words. Numbers here are worked out by hand from
-documents 01 and 02. What is said of writes stands in check_writes.py.
+documents 01 and 02. What is said of writes stands in check_writes.py, and what is said of drawers in check_drawers.py.
 """
 import io
 import struct
 
-from . import build, check_writes, files, layout, mixed, mixed_writes, sweep
+from . import build, check_drawers, check_writes, files, layout, mixed, mixed_writes, sweep
 from .build import Dice, column_file
 from .check_writes import unless
 from .files import DIFFERENCES, FRAME, PACKED, RUNS
-from .stream import BLOCK_OUT, CHECK, NO_COUNT, ROW_LOOKUP, WRITE, Outcome, Question
-from .stream import answered, cases, record, replay
+from .stream import BLOCK_OUT, CHECK, DRAWERS, FOR_PACK_BLOCKS, NO_COUNT, ROW_LOOKUP, UNPACK_BLOCKS, WRITE
+from .stream import Outcome, Question, answered, cases, record, replay
 
-GIVEN = {  # The numbers that each call can give, from Items 1 and 3.
+GIVEN = {  # The numbers that each call can give, from Items 1, 3 and 7.
     CHECK: {0, 8, 9, 10, 11, 13},
     BLOCK_OUT: {0, 2, 8, 9, 10, 11, 12, 13},
     ROW_LOOKUP: {0, 8, 9, 10, 11, 12, 13},
     WRITE: {0, 2, 14},
+    UNPACK_BLOCKS: {0, 1, 2, 3},
+    FOR_PACK_BLOCKS: {0, 1, 2, 3},
 }
 COUNTS = {  # The counts of words that a row lookup can give in each kind of block, from Item 5.
     PACKED: {0, 1, 2},
@@ -202,20 +204,30 @@ def order_of_refusals(asked):
     yield from unless(pairs == wanted, f"the pairs of refusals are {sorted(pairs)}")
 
 
-def what_is_reached(name, questions):
+def read_at(question):
+    """The kind and width, or of runs the length, of the block that a block out or a row lookup reads."""
+    block = question.index if question.op == BLOCK_OUT else question.index // 1024
+    entry = files.entry_at(question.a, block)
+    return entry.kind, entry.width if entry.kind != RUNS else entry.length
+
+
+def what_is_reached(name, questions, by_rows=False):
     """Every number that a call can give, and no other; every kind is read and written; every count that a kind can
-    give is given; outputs change and stay."""
+    give is given; outputs change and stay. Blocks come out at the widths at the edges; with by_rows, kinds 0 and 1 may
+    have a row lookup there in the place of a block out."""
     reached = {op: set() for op in GIVEN}
     kinds, written, counts = set(), set(), {kind: set() for kind in COUNTS}
     for question in questions:
         outcome = answered(question)
         reached[question.op].add(outcome.number)
         if question.op == BLOCK_OUT and not outcome.number:
-            entry = files.entry_at(question.a, question.index)
-            kinds.add((entry.kind, entry.width if entry.kind != RUNS else entry.length))
+            kinds.add(read_at(question))
             yield from unless(outcome.c != question.c, f"{name}, {question.name}: the output would not change")
         if question.op == ROW_LOOKUP and not outcome.number:
-            counts[files.entry_at(question.a, question.index // 1024).kind].add(outcome.reference)
+            kind, _ = read_at(question)
+            counts[kind].add(outcome.reference)
+            if by_rows and kind in (PACKED, FRAME):
+                kinds.add(read_at(question))
         if question.op == WRITE and not outcome.number:
             written |= {entry.kind for entry in files.entries_of(outcome.c)}
             yield from unless(outcome.c != question.c, f"{name}, {question.name}: the output would not change")
@@ -235,10 +247,13 @@ def what_is_reached(name, questions):
 
 def bytes_to_spoil(question, outcome):
     """Places in the output: its first and last byte. Of a file that is written also one in each field of the contents,
-    the first of the bodies, the file's last, and the one behind it."""
+    the first of the bodies, the file's last, and the one behind it. Of a drawer that is done the ends of each block."""
     at = {0, len(outcome.c) - 1}
     if question.op == WRITE and not outcome.number:
         at |= {2, 4, 5, 6, 8, 12, 20, outcome.value - 1, outcome.value}
+    if question.op in DRAWERS and not outcome.number and question.index:
+        size = len(outcome.c) // question.index
+        at |= {size * block + end for block in range(question.index) for end in (-1, 0)}
     return sorted(at & set(range(len(outcome.c))))
 
 
@@ -256,7 +271,7 @@ def spoiled(questions):
         if question.op == ROW_LOOKUP:
             yield question, outcome._replace(value=(outcome.value + 2**63) % 2**64)
             yield from ((question, outcome._replace(reference=count)) for count in wrong_counts(outcome.reference))
-        if question.op == WRITE:
+        if question.op == WRITE or question.op in DRAWERS:
             yield question, outcome._replace(value=outcome.value + 1)
         for at in bytes_to_spoil(question, outcome):
             c = bytearray(outcome.c)
@@ -290,6 +305,12 @@ def streams(questions):
     question = Question(WRITE, "the sevens", numbers, c=before)
     same = record(question, answered(question)) == head + numbers + before + after
     yield from unless(same, "a record of a write has another form")
+    # 263 words of two blocks at T 16 width 5, so that it is refused with 2; the reference is given.
+    head = struct.pack("<BBHB3xQQQQ4I", FOR_PACK_BLOCKS, 16, 5, 2, 0, 0, 40000, 2, 263, 0, 3, 0)
+    taken, before = bytes(range(256)) * 2 + b"abcdefghijklmn", b"\xa5" * 6
+    question = Question(FOR_PACK_BLOCKS, "a drawer", taken, c=before, index=2, t=16, width=5, reference=40000)
+    same = record(question, answered(question)) == head + taken + before + before
+    yield from unless(same, "a record of a drawer has another form")
     yield from unless(len(whole) < 1_000_000, f"the sample has {len(whole)} bytes, and is to be below a megabyte")
 
 
@@ -297,6 +318,7 @@ def failures():
     """All that is not so."""
     swept = list(sweep.sweep(1))
     sample = list(sweep.sample())
+    some = list(mixed.mixed(1, 800))
     yield from worked_files()
     yield from packed_cases()
     yield from frame_cases()
@@ -307,8 +329,9 @@ def failures():
     yield from counts_by_kind()
     yield from order_of_refusals(set(swept))
     yield from what_is_reached("sweep", swept)
-    yield from what_is_reached("sample", sample)
-    yield from what_is_reached("mixed", list(mixed.mixed(1, 800)))
+    yield from what_is_reached("sample", sample, by_rows=True)
+    yield from what_is_reached("mixed", some)
     yield from check_writes.failures(swept, sample)
+    yield from check_drawers.failures(swept, sample, some)
     yield from check_writes.reads_back(check_writes.all_written(mixed_writes.writes(1, 100)))
     yield from streams(sample)

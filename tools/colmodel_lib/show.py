@@ -1,9 +1,10 @@
 """Shows a column file to a person: its contents as far as they are there, and the answer with what is wrong.
 
-Of a write it shows the three candidates of each block, and the file that the model writes.
+Of a write it shows the three candidates of each block, and the file that the model writes. Of a drawer it shows the
+blocks that the model gives.
 """
-from . import files, writer
-from .stream import NO_COUNT, ROW_LOOKUP, WRITE
+from . import drawers, files, writer
+from .stream import DRAWERS, FOR_PACK_BLOCKS, NO_COUNT, ROW_LOOKUP, UNPACK_BLOCKS, WRITE
 
 
 def plural(n, word):
@@ -128,16 +129,57 @@ def outcome_words(question, outcome):
     return f"{said}, reference {outcome.reference}" if outcome.reference else said
 
 
+def drawer_answer(question):
+    """The model's answer to a call on a drawer, with what is wrong in words."""
+    taken, room = (len(buffer) * 8 // question.t for buffer in (question.a, question.c))
+    values, packed = (room, taken) if question.op == UNPACK_BLOCKS else (taken, room)
+    return drawers.answer_to(question.t, question.width, question.index, values, packed)
+
+
+def drawer_lines(question, answered):
+    """What the model does with a drawer: its answer, and the first elements of each block that it gives."""
+    yield answer_line(drawer_answer(question))
+    if not answered.number:
+        for i, block in enumerate(drawers.parts_of(answered.c, question.index)):
+            first = " ".join(map(str, drawers.numbers_of(question.t, block)[:4]))
+            yield f"block {i}: first {first} ..." if first else f"block {i}: no packed words"
+
+
+def drawer_difference(question, expected, answered):
+    """The first element of the output that is another than the one that is expected."""
+    pairs = zip(drawers.numbers_of(question.t, expected.c), drawers.numbers_of(question.t, answered.c))
+    for i, (wanted, found) in enumerate(pairs):
+        if wanted != found:
+            yield f"element {i} of the output: {wanted} is expected, and the model gives {found}"
+            return
+
+
+def given_words(question):
+    """What goes into a call."""
+    if question.op == WRITE:
+        return f"{plural(len(question.a) // 8, 'number')}, output of {plural(len(question.c), 'byte')}"
+    if question.op not in DRAWERS:
+        return f"index {question.index}, output of {plural(len(question.c) // 8, 'place')}"
+    framed = f", reference {question.reference}" if question.op == FOR_PACK_BLOCKS else ""
+    taken, room = (len(buffer) * 8 // question.t for buffer in (question.a, question.c))
+    words = ("packed word", "value") if question.op == UNPACK_BLOCKS else ("value", "packed word")
+    buffers = f"{plural(taken, words[0])}, output of {plural(room, words[1])}"
+    return f"T {question.t}, width {question.width}, M {question.index}{framed}, {buffers}"
+
+
 def case_lines(i, question, expected, answered):
-    """A case of a stream, what is expected of it, what the model gives, and its file."""
-    writes = question.op == WRITE
-    room = plural(len(question.c), "byte") if writes else plural(len(question.c) // 8, "place")
-    given = plural(len(question.a) // 8, "number") if writes else f"index {question.index}"
-    yield f"case {i}: call {question.op}, {given}, output of {room}"
+    """A case of a stream, what is expected of it, what the model gives, and its file or its blocks."""
+    yield f"case {i}: call {question.op}, {given_words(question)}"
     yield f"expected: {outcome_words(question, expected)}"
     if answered == expected:
         yield "the model gives the same"
     else:
         said = outcome_words(question, answered)
         yield f"the model: {said}, output {output_words(expected.c, answered.c)}"
-    yield from write_lines(files.words_of(question.a), len(question.c)) if writes else lines(question.a)
+    if question.op in DRAWERS:
+        yield from drawer_difference(question, expected, answered)
+        yield from drawer_lines(question, answered)
+    elif question.op == WRITE:
+        yield from write_lines(files.words_of(question.a), len(question.c))
+    else:
+        yield from lines(question.a)

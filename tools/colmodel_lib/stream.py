@@ -1,15 +1,17 @@
 """Questions, what the model answers to them, and the case stream of docs/CASES.md that holds both.
 
 A question is what goes into a call. An outcome is all that a call gives and leaves. CALLS has the model's function for
-each op, and ELEMENTS the bytes of an element of a, b and c, so a later call needs a line in each.
+each op, and ELEMENTS the bytes of an element of a, b and c, so a later call needs a line in each. The calls on drawers
+have elements of T bits; the others have no size, and T is 64 there.
 """
 import struct
 from typing import NamedTuple
 
-from . import files, writer
+from . import drawers, files, writer
 
 HEAD = struct.Struct("<BBHB3xQQQQ4I")
 CHECK, BLOCK_OUT, ROW_LOOKUP, WRITE = 16, 17, 18, 19
+UNPACK_BLOCKS, FOR_PACK_BLOCKS = DRAWERS = 24, 25
 ELEMENTS = {CHECK: (1, 1, 8), BLOCK_OUT: (1, 1, 8), ROW_LOOKUP: (1, 1, 8), WRITE: (8, 1, 1)}
 MOST_BYTES = 2_200_000  # of one buffer in a stream
 NO_COUNT = 2**64 - 1  # in the reference of a row lookup that says no count of words
@@ -26,6 +28,9 @@ class Question(NamedTuple):
     b: bytes = b""
     c: bytes = b""  # the lent buffer at entry
     index: int = 0
+    t: int = 64
+    width: int = 0
+    reference: int = 0  # that the call takes; what a call gives there is in its outcome
 
 
 class Outcome(NamedTuple):
@@ -63,7 +68,39 @@ def to_write(q):
     return refused(answer, q) if answer.number else Outcome(0, 0, data + q.c[len(data) :], len(data))
 
 
-CALLS = {CHECK: to_check, BLOCK_OUT: to_block_out, ROW_LOOKUP: to_row_lookup, WRITE: to_write}
+def to_unpack_blocks(q):
+    answer, values = drawers.unpack_blocks(q.t, q.width, q.index, q.a, len(q.c) * 8 // q.t)
+    return refused(answer, q) if answer.number else Outcome(0, 0, values)
+
+
+def to_for_pack_blocks(q):
+    answer, packed = drawers.for_pack_blocks(q.t, q.width, q.index, q.reference, q.a, len(q.c) * 8 // q.t)
+    return refused(answer, q) if answer.number else Outcome(0, 0, packed)
+
+
+CALLS = {
+    CHECK: to_check,
+    BLOCK_OUT: to_block_out,
+    ROW_LOOKUP: to_row_lookup,
+    WRITE: to_write,
+    UNPACK_BLOCKS: to_unpack_blocks,
+    FOR_PACK_BLOCKS: to_for_pack_blocks,
+}
+
+
+def sizes_of(op):
+    """The sizes of an element in bits that a call has."""
+    return drawers.SIZES if op in DRAWERS else (64,)
+
+
+def elements(op, t):
+    """The bytes of an element of a, b and c."""
+    return (t // 8, 1, t // 8) if op in DRAWERS else ELEMENTS[op]
+
+
+def takes_reference(op):
+    """Does the call take its reference? In every other one the reference is expected."""
+    return op == FOR_PACK_BLOCKS
 
 
 def answered(question):
@@ -74,9 +111,10 @@ def answered(question):
 def record(q, outcome):
     """A case of the stream."""
     assert max(len(q.a), len(q.b), len(q.c)) <= MOST_BYTES, f"{q.name}: a buffer is too long for the stream"
-    counts = [len(buffer) // size for buffer, size in zip((q.a, q.b, q.c), ELEMENTS[q.op])]
-    expected = (outcome.number, outcome.place, outcome.value, outcome.reference)
-    return HEAD.pack(q.op, 64, 0, *expected, q.index, *counts, 0) + q.a + q.b + q.c + outcome.c
+    counts = [len(buffer) // size for buffer, size in zip((q.a, q.b, q.c), elements(q.op, q.t))]
+    reference = q.reference if takes_reference(q.op) else outcome.reference
+    expected = (outcome.number, outcome.place, outcome.value, reference)
+    return HEAD.pack(q.op, q.t, q.width, *expected, q.index, *counts, 0) + q.a + q.b + q.c + outcome.c
 
 
 def cases(stream):
@@ -84,16 +122,20 @@ def cases(stream):
     while head := stream.read(HEAD.size):
         if len(head) < HEAD.size:
             raise BadStream("a record's head is cut short")
-        op, t, _, number, place, value, reference, index, *counts, n_d = HEAD.unpack(head)
+        op, t, width, number, place, value, reference, index, *counts, n_d = HEAD.unpack(head)
         if op not in CALLS:
             raise BadStream(f"there is no call {op}")
-        sizes = [n * size for n, size in zip(counts, ELEMENTS[op])]
-        if t != 64 or n_d != 0 or max(sizes) > MOST_BYTES:
-            raise BadStream(f"t {t}, buffers of {sizes} bytes and {n_d} elements of d: this cannot be")
+        if t not in sizes_of(op):
+            raise BadStream(f"call {op} has no size {t}")
+        sizes = [n * size for n, size in zip(counts, elements(op, t))]
+        if n_d != 0 or max(sizes) > MOST_BYTES:
+            raise BadStream(f"buffers of {sizes} bytes and {n_d} elements of d: this cannot be")
         a, b, c, c_exit = (stream.read(size) for size in (*sizes, sizes[2]))
         if [len(a), len(b), len(c), len(c_exit)] != [*sizes, sizes[2]]:
             raise BadStream("a record's buffers are cut short")
-        yield Question(op, "", a, b, c, index), Outcome(number, place, c_exit, value, reference)
+        given, expected = (reference, 0) if takes_reference(op) else (0, reference)
+        question = Question(op, "", a, b, c, index, t, width, given)
+        yield question, Outcome(number, place, c_exit, value, expected)
 
 
 def replay(stream):
@@ -104,7 +146,7 @@ def replay(stream):
         for question, expected in cases(stream):
             if answered(question) != expected:
                 differ += 1
-                first = first or f"first {count} op {question.op} t 64 width 0"
+                first = first or f"first {count} op {question.op} t {question.t} width {question.width}"
             count += 1
     except BadStream:
         return [f"bad stream at {count}"]

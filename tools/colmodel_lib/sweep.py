@@ -3,9 +3,9 @@ whose order can be seen.
 
 Each section is a function that gives questions. What the answer is comes from the model and is never written here; the
 one exception is the order of the refusals, which stands again in STEPS, so that the selfcheck can hold the model to it.
-The cases of Item 3 come after these, from sweep_writes.py.
+The cases of Item 3 come after these, from sweep_writes.py, and then those of Item 7, from sweep_drawers.py.
 """
-from . import build, files, layout, sweep_writes
+from . import build, files, layout, sweep_drawers, sweep_writes
 from .ask import ask_all, ask_block, ask_check, ask_row
 from .build import Block, Dice, any_block, any_runs, column_file, frame, packed, runs, with_index
 from .files import DIFFERENCES, FRAME, PACKED, RUNS
@@ -368,14 +368,17 @@ def fits(steps, way):
     return not any(later in APART.get(step, ()) for step in steps for later in steps)
 
 
-def faulty_file(steps, way):
-    """A file that fails exactly these steps and is good otherwise."""
+def faulty_file(steps, way, lean=False):
+    """A file that fails exactly these steps and is good otherwise. A lean one has no run block but the bad one."""
     dice = Dice("steps", way)
     blocks = [any_block(dice, PACKED, 1), any_runs(dice, 1), any_block(dice, FRAME, 1), any_block(dice, PACKED, 0)]
     blocks += [any_runs(dice, 2), any_block(dice, DIFFERENCES, 0)]
     bad_entry, bad_block = WAYS[way]["entry"], WAYS[way]["block"]
+    bad_runs = with_index(blocks[bad_block], 9, 77)
+    if lean:
+        blocks = [frame(0, b"", 5) if block.entry.kind == RUNS else block for block in blocks]
     if RUNS_WRONG in steps:
-        blocks[bad_block] = with_index(blocks[bad_block], 9, 77)
+        blocks[bad_block] = bad_runs
     if ENTRY_WRONG in steps:
         blocks[bad_entry] = blocks[bad_entry].but(zero=3)
     data = column_file(blocks, **(WAYS[way]["head"] if HEAD_WRONG in steps else {}))
@@ -388,9 +391,9 @@ def faulty_file(steps, way):
     return data[:3] if HEAD_SHORT in steps else data
 
 
-def faulty_question(op, steps, way, room=1023):
+def faulty_question(op, steps, way, room=1023, lean=False):
     """A call that fails exactly these steps; room is the output's length where that is to be wrong."""
-    data = faulty_file(steps, way)
+    data = faulty_file(steps, way, lean)
     name = f"{' and '.join(steps) or 'nothing wrong'}, way {way}"
     far = TOO_FAR in steps
     if op == CHECK:
@@ -411,10 +414,10 @@ def sets_of_steps(op, way):
         yield from (tuple(many[i:]) for i in range(len(many) - 2))
 
 
-def faults_together(dice, ops=(CHECK, BLOCK_OUT, ROW_LOOKUP), ways=(0, 1), room=1023):
-    for op in ops:
-        for way in ways:
-            yield from (faulty_question(op, steps, way, room) for steps in sets_of_steps(op, way))
+def faults_together(dice):
+    for op in (CHECK, BLOCK_OUT, ROW_LOOKUP):
+        for way in range(len(WAYS)):
+            yield from (faulty_question(op, steps, way) for steps in sets_of_steps(op, way))
 
 
 SECTIONS = (
@@ -437,6 +440,7 @@ SECTIONS = (
     trailing,
     faults_together,
     *sweep_writes.SECTIONS,
+    *sweep_drawers.SECTIONS,
 )
 
 
@@ -446,6 +450,27 @@ def sweep(seed):
 
 
 # The sample that the repository keeps: the same sections, with fewer wide files and fewer block outputs.
+
+
+def small_worked(dice):
+    """Item 1's two files, without the output that the file of no blocks leaves as it is."""
+    yield from (question for question in worked_files(dice) if question.op != BLOCK_OUT or question.a != NO_BLOCKS)
+
+
+def small_widths(dice):
+    """Each kind at the widths at its edges: a block out and a row. Some blocks out are left to the file of sevens, to
+    small_crossing and to small_limits. Of the wide files of kinds 0 and 1 one gives its block and the other a row,
+    since the frame is packed as kind 0 is."""
+    elsewhere = {(PACKED, 0), (FRAME, 0), (FRAME, 1), (DIFFERENCES, 0)}
+    only_row = {(PACKED, 64), (FRAME, 63)}
+    only_block = {(PACKED, 63), (FRAME, 64), (DIFFERENCES, 64)}
+    for kind in (PACKED, FRAME, DIFFERENCES):
+        for width in EDGE_WIDTHS:
+            data = column_file([any_block(dice, kind, width)])
+            if (kind, width) not in elsewhere | only_row:
+                yield ask_block(dice, f"kind {kind} width {width}", data)
+            if (kind, width) not in only_block:
+                yield ask_row(f"kind {kind} width {width}", data, 1023)
 
 
 def small_fields(dice):
@@ -465,9 +490,8 @@ def small_fields(dice):
 
 
 def small_runs(dice):
-    for n in (1, 1024):
-        data = column_file([any_runs(dice, n)])
-        yield from ask_all(dice, f"{n} runs", data, row=512)
+    yield from ask_all(dice, "1 runs", column_file([any_runs(dice, 1)]), row=512)
+    yield ask_block(dice, "1024 runs", column_file([any_runs(dice, 1024)]))
     for n, index in ((1, 1), (1, 256), (1, 65535), (3, 2), (3, 3)):
         data = column_file([with_index(any_runs(dice, n), 1023, index)])
         yield ask_check(f"{n} runs, index {index} at 1023", data)
@@ -500,17 +524,22 @@ def small_counts(dice):
 
 
 def small_crossing(dice):
+    """The file of mixed kinds with one run block in it, and two blocks out: one of kind 1 width 1 and one of kind 2
+    width 0."""
     blocks = mixed_blocks(dice)
+    del blocks[6]
     data = column_file(blocks)
     yield from (ask_row("mixed kinds", data, 1024 * i + 1023 * (i % 2)) for i in range(len(blocks)))
-    yield ask_block(dice, "mixed kinds", data, 2)
+    yield ask_block(dice, "mixed kinds", data, 4)
+    yield ask_block(dice, "mixed kinds", data, 6)
 
 
 def small_limits(dice):
-    blocks = many_small(dice)
+    """256 blocks, the last of kind 0 and the others of kind 1, and the numbers at the limit; then two blocks."""
+    blocks = [*many_small(dice)[:255], packed(0, b"")]
     data = column_file(blocks)
-    yield from ask_all(dice, "256 blocks", data, 255, 262143)
-    yield from (ask_row("256 blocks", data, row) for row in (1024, 262144, 2**42, 2**64 - 1))
+    yield ask_block(dice, "256 blocks", data, 255)
+    yield from (ask_row("256 blocks", data, row) for row in (261119, 262143, 262144))
     data = column_file(blocks[:2])
     yield from (ask_row("2 blocks", data, row) for row in (1023, 1024, 2047, 2048, *TOO_HIGH))
     yield ask_block(dice, "2 blocks", data, 2**54)
@@ -518,7 +547,7 @@ def small_limits(dice):
 
 def small_outputs(dice):
     """Output lengths, and block outputs that a bad file leaves as they are."""
-    for room in (0, 1023, 1025):
+    for room in (0, 1025):
         yield ask_block(dice, "a good file", SEVENS, 0, room)
     yield ask_block(dice, "cut in the entry", SEVENS[:19])
     yield ask_block(dice, "edition 256", column_file([], 256))
@@ -526,21 +555,35 @@ def small_outputs(dice):
     yield ask_block(dice, "a bad index", column_file([frame(0, b"", 5), with_index(any_runs(dice, 1), 512, 1)]))
 
 
+def small_faults(dice):
+    """Faults in a row lookup, alone and together; then in a block out, behind an output of a wrong length."""
+    for steps in sets_of_steps(ROW_LOOKUP, 0):
+        yield faulty_question(ROW_LOOKUP, steps, 0, lean=True)
+    for steps in sets_of_steps(BLOCK_OUT, 1):
+        if ROOM in steps:
+            yield faulty_question(BLOCK_OUT, steps, 1, room=3, lean=True)
+
+
+SMALL_SECTIONS = (
+    small_worked,
+    small_widths,
+    small_runs,
+    small_crossing,
+    small_limits,
+    small_outputs,
+    small_heads,
+    small_fields,
+    small_cuts,
+    two_bad_entries,
+    small_faults,
+)
+
+
 def sample():
     """Cases for the repository to keep; below a megabyte, and always the same."""
     dice = Dice("sample")
-    yield from worked_files(dice)
-    for kind in (PACKED, FRAME, DIFFERENCES):
-        for width in EDGE_WIDTHS:
-            data = column_file([any_block(dice, kind, width)])
-            yield ask_block(dice, f"kind {kind} width {width}", data)
-            yield ask_row(f"kind {kind} width {width}", data, 1023)
-    for section in (small_runs, small_crossing, small_limits, small_outputs, small_heads, small_fields, small_cuts):
+    for section in SMALL_SECTIONS:
         yield from section(dice)
-    yield from two_bad_entries(dice)
-    yield from faults_together(dice, (ROW_LOOKUP,), (0,))
-    for steps in sets_of_steps(BLOCK_OUT, 1):
-        if ROOM in steps:
-            yield faulty_question(BLOCK_OUT, steps, 1, room=3)
     yield from small_counts(Dice("sample of counts"))
     yield from sweep_writes.small_writes(Dice("sample of writes"))
+    yield from sweep_drawers.small_drawers(Dice("sample of drawers"))
