@@ -5,7 +5,8 @@
 //     op        the call, numbered as in docs/CASES.md; 255 is a turn that makes no call
 //     t         the element size: 8, 16, 32 or 64
 //     width     the width, for the calls that take one
-//     start     the first value of the input block; for the calls on a column file see column_files and column_writes
+//     start     the first value of the input block, and of a drawer also how many blocks there are; for the calls on a column file
+//               see column_files and column_writes
 //     step      from each value to the next, modulo 256
 //     turns     how often to call again after the first call: three bytes, the lowest first
 //
@@ -97,6 +98,9 @@ fn run(request: Request) -> Outcome {
     if op == 19 {
         return column_writes::run(request);
     }
+    if op == 24 || op == 25 {
+        return on_drawer(request);
+    }
     let t = request.t;
     match t {
         8 => t8::run(request),
@@ -107,6 +111,17 @@ fn run(request: Request) -> Outcome {
             answers: UNKNOWN,
             sum: 0,
         },
+    }
+}
+
+// The calls on drawers, at the size of their elements.
+fn on_drawer(request: Request) -> Outcome {
+    let t = request.t;
+    match t {
+        8 => t8::many::run(request),
+        16 => t16::many::run(request),
+        32 => t32::many::run(request),
+        _ => t64::many::run(request),
     }
 }
 

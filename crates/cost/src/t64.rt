@@ -1,5 +1,7 @@
 // The calls at u64. A call reads the block of values, or the front of it as packed words or as the base, and writes to the
-// block of outputs; encode writes its indices to a block of their own.
+// block of outputs; encode writes its indices to a block of their own. The calls on drawers stand in the module many.
+pub mod many;
+
 use crate::Outcome;
 use crate::Places;
 use crate::Request;

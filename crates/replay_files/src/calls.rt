@@ -1,5 +1,5 @@
-// The calls: what each takes, and how it is made. A call has a line in `takes`; one that reads a file has a line in `call`,
-// and the one that writes a file is made by `write`.
+// The calls: what each takes, and how those on files are made. A call has a line in `takes`; one that reads a file has a line
+// in `call`, the one that writes a file is made by `write`, and the calls on drawers are made in the modules of the sizes.
 use contents::FileAnswer;
 use files::Row;
 use stream::Head;
@@ -23,22 +23,28 @@ impl Intake {
     }
 }
 
-// A call that is not made here takes nothing.
-fn takes(op: u8) -> Intake {
+// A call that is not made here takes nothing. The elements of a drawer have the size of the case.
+fn takes(op: u8, size: usize) -> Intake {
     match op {
         16 => Intake::of(1, 0, 0, false),
         17 => Intake::of(1, 0, 8, true),
         18 => Intake::of(1, 0, 0, true),
         19 => Intake::of(8, 0, 1, false),
+        24 | 25 => Intake::of(size, 0, size, true),
         _ => Intake::of(0, 0, 0, false),
     }
 }
 
+// Whether the call is one on a drawer. Then it takes a width, and elements of any size.
+pub fn is_drawer(op: u8) -> bool {
+    op == 24 || op == 25
+}
+
 // Whether a record can have this head.
 pub fn is_possible(head: Head) -> bool {
-    let takes = takes(head.op);
-    head.t == 64
-        && head.width == 0
+    let takes = takes(head.op, (head.t / 8) as usize);
+    (head.t == 64 || (is_drawer(head.op) && is_small(head.t)))
+        && (is_drawer(head.op) || head.width == 0)
         && head.zero == 0
         && (takes.index || head.index == 0)
         && fits(head.n_a, takes.a)
@@ -47,12 +53,16 @@ pub fn is_possible(head: Head) -> bool {
         && head.n_d == 0
 }
 
+// Whether t is one of the sizes below 64.
+fn is_small(t: u8) -> bool {
+    t == 8 || t == 16 || t == 32
+}
+
 // Whether a buffer can have n elements of this size: at most 2,200,000 bytes, and none of an element without size.
 fn fits(n: usize, size: usize) -> bool {
     match size {
         0 => n == 0,
-        1 => n <= 2_200_000,
-        _ => n <= 275_000,
+        _ => n <= 2_200_000 / size,
     }
 }
 

@@ -1,24 +1,17 @@
 -- `stream::same_words` meets its contract. The loop's invariant: the first i numbers are those of the bytes.
 -- Assumes nothing.
 use mathlib.Core.Path.{_≡_, sym, _∙_}
-use mathlib.Core.List.{List}
 use Prim.Native.Nat.{ℕ, _-_, _*_, _≤_, _<_, zero-le}
 use native.Mathlib.Omega.{arith}
 use denote.Ref.{now}
 use lib.ListN.{getD}
 use borrow.Author.Needs.{needs}
 use borrow.Author.Count.{below-none, below-more}
-use Rattle.places.proofs.Tabs.{getD-tab}
-use Rattle.little.specs.Little.{little, numbersOf}
+use Rattle.little.specs.Little.{little}
 use Rattle.little.proofs.Little.{little-within}
-use Rattle.stream.proofs.Compared.{no, yes}
+use Rattle.stream.proofs.Compared.{number-at, no, yes}
 use Rattle.stream.proofs.same_words.Statement.{statement}
 use Rattle.stream.proofs.same_words.Tie as tie
-
--- one of the numbers that the bytes hold
-number-at : (bytes : List ℕ) (n k : ℕ) → k < n → getD (numbersOf 8 bytes n) k 0 ≡ little bytes (k * 8) 8
-unfolding numbersOf
-number-at bytes n k h = getD-tab n (λ i. little bytes (i * 8) 8) k 0 h
 
 abbrev Inv-loop : tie.InvT-loop
 Inv-loop words bytes n i₀ i = (i ≤ n) × ((k : ℕ) → k < i → getD words k 0 ≡ little bytes (k * 8) 8)
@@ -53,7 +46,7 @@ read : (c : tie.After-word Inv-loop μ-loop)
 read c = c .word .ensures ∙ little-within _ _ 8 (omega arith)
 
 returns-3 : tie.Need-returns-3 Inv-loop μ-loop
-returns-3 c = no (λ w b a. c .if3 .taken (a _ (omega arith) ∙ number-at _ _ _ (omega arith) ∙ sym (read (c .before))))
+returns-3 c = no (λ w b a. c .if3 .taken (a _ (omega arith) ∙ number-at 8 _ _ _ (omega arith) ∙ sym (read (c .before))))
 
 add-i : tie.Need-add-i Inv-loop μ-loop
 add-i c = search needs
@@ -67,7 +60,7 @@ loop-again c = (omega arith, below-more _ _ (c .before .before .before .before .
 returns-4 : tie.Need-returns-4 Inv-loop μ-loop
 returns-4 c =
     let e : c .before .loop .i ≡ c .before .before .before .before .before .before .args .n = omega arith in
-    yes (omega arith) (omega arith) (λ k b. c .before .loop .inv .1 k (omega arith) ∙ sym (number-at _ _ k b))
+    yes (omega arith) (omega arith) (λ k b. c .before .loop .inv .1 k (omega arith) ∙ sym (number-at 8 _ _ k b))
 
 pub same-words-spec : {M : Type 1} → statement M
 same-words-spec =

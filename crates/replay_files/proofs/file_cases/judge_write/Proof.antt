@@ -1,10 +1,10 @@
--- `replay_files::judge_write` meets its contract, as `judge` does.
+-- `replay_files::file_cases::judge_write` meets its contract, as `judge` does.
 -- Assumes nothing.
 use denote.Ref.{now}
 use borrow.Author.Needs.{needs}
 use Rattle.stream.proofs.Expected.{judged}
-use Rattle.replay_files.proofs.judge_write.Statement.{statement}
-use Rattle.replay_files.proofs.judge_write.Tie as tie
+use Rattle.replay_files.proofs.file_cases.judge_write.Statement.{statement}
+use Rattle.replay_files.proofs.file_cases.judge_write.Tie as tie
 
 same-bytes-requires : tie.Need-same-bytes-requires
 same-bytes-requires c κs = search needs

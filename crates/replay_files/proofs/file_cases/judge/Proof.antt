@@ -1,11 +1,11 @@
--- `replay_files::judge` meets its contract: a case is the same exactly where what was given back and what c holds are as expected.
+-- `replay_files::file_cases::judge` meets its contract: a case is the same exactly where what was given back and what c holds are as expected.
 -- Assumes nothing.
 use denote.Ref.{now}
 use borrow.Author.Needs.{needs}
 use Rattle.little.specs.Little.{numbersOf}
 use Rattle.stream.proofs.Expected.{judged}
-use Rattle.replay_files.proofs.judge.Statement.{statement}
-use Rattle.replay_files.proofs.judge.Tie as tie
+use Rattle.replay_files.proofs.file_cases.judge.Statement.{statement}
+use Rattle.replay_files.proofs.file_cases.judge.Tie as tie
 
 same-words-requires : tie.Need-same-words-requires
 same-words-requires c κs = search needs
