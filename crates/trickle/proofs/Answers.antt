@@ -1,7 +1,7 @@
 -- What start and ask answer, by the tests that they make, and what a refused call leaves.
 -- Assumes nothing.
 use mathlib.Core.List.{List}
-use mathlib.Core.Path.{_≡_, refl}
+use mathlib.Core.Path.{_≡_, refl, sym, ap, _∙_}
 use Prim.Native.Nat.{ℕ, _*_, _≤_, _<_}
 use lib.ListN.{length}
 use borrow.Author.Tests.{le-leb, lt-leb, eq-eqb, ne-eqb}
@@ -10,7 +10,7 @@ use Rattle.trickle.specs.declared.State.{State}
 use Rattle.trickle.specs.declared.TrickleAnswer.{TrickleAnswer}
 use Rattle.trickle.specs.declared.TrickleAnswer.the-variants.{Done, Width, Block, Early}
 use Rattle.trickle.specs.Answers.{numberOf, trickleAnswer, left}
-use Rattle.trickle.specs.Trickle.{bodySize, widthOf, countOf, startAnswer, askAnswer}
+use Rattle.trickle.specs.Trickle.{bodySize, widthOf, countOf, startAnswer, askAnswer, valuesOf, askLeaves}
 
 -- the width of a start
 pub start-wide : (w : ℕ) → 64 < w → startAnswer w ≡ Width
@@ -45,3 +45,13 @@ number-done Done e = refl
 number-done Width e = absurd (number-apart e)
 number-done Block e = absurd (number-apart e)
 number-done (Early p) e = absurd (number-apart e)
+
+-- What ask gives and leaves where it is refused, and where it is done.
+module _ (s : State) (output : List ℕ) where
+  pub refused : {a : TrickleAnswer} → askAnswer s output ≡ a → (numberOf a ≡ 0 → ⊥) → (a ≡ askAnswer s output) × (output ≡ askLeaves s output)
+  unfolding askLeaves
+  refused {a} e n = (sym e, sym (ap (λ x. left x (valuesOf s) output) e ∙ left-refused a (valuesOf s) output n))
+
+  pub done : {new : List ℕ} → askAnswer s output ≡ Done → new ≡ valuesOf s → (Done ≡ askAnswer s output) × (new ≡ askLeaves s output)
+  unfolding askLeaves
+  done e f = (sym e, f ∙ sym (ap (λ x. left x (valuesOf s) output) e))

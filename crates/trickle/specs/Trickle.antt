@@ -23,16 +23,16 @@ bodySize w = 128 * w
 -- ---- what a state counts as
 
 -- This test says that a state can be the state of a body: its width is at most 64, and it holds no more bytes than the body has.
-abbrev pub fits : (width held : ℕ) → Bool
-fits width held = both (leb width 64) (leb held (bodySize width))
+abbrev pub canBe : (width held : ℕ) → Bool
+canBe width held = both (leb width 64) (leb held (bodySize width))
 
 -- A state that cannot be counts as the state of width 0 with nothing held. So this is the width that a state counts as having,
 unfoldable pub widthOf : (s : State) → ℕ
-widthOf s = pick (fits (s .width) (s .held)) (s .width) 0
+widthOf s = pick (canBe (s .width) (s .held)) (s .width) 0
 
 -- this is how many bytes it counts as holding,
 unfoldable pub countOf : (s : State) → ℕ
-countOf s = pick (fits (s .width) (s .held)) (s .held) 0
+countOf s = pick (canBe (s .width) (s .held)) (s .held) 0
 
 -- and these are the bytes that it holds: they stand at the front of its room.
 unfoldable pub heldOf : (s : State) → List ℕ

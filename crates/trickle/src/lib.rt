@@ -14,7 +14,7 @@ ghost use Rattle.places.specs.Tab.{over};
 ghost use Rattle.packing.specs.Packed.{unpackOf};
 ghost use Rattle.little.specs.Little.{numbersOf};
 ghost use Rattle.trickle.specs.Answers.{numberOf, placeOf};
-ghost use Rattle.trickle.specs.Trickle.{fits as fitsIn, startedOf, fedOf, askAnswer, askLeaves};
+ghost use Rattle.trickle.specs.Trickle.{canBe, startedOf, fedOf, askAnswer, askLeaves};
 
 // What start and ask answer: that the call is done, or why it is refused.
 pub enum TrickleAnswer {
@@ -102,8 +102,8 @@ pub fn start(width: usize) -> Started
 pub fn feed(state: State, chunk: &[u8]) -> Fed
     ensures { λ r. ⌜ r ≡ fedOf state (now (chunk .entry)) ⌝ }
 {
-    let width = if_fits(state.width, state.held, state.width);
-    let held = if_fits(state.width, state.held, state.held);
+    let width = if_can_be(state.width, state.held, state.width);
+    let held = if_can_be(state.width, state.held, state.held);
     let taken = shorter(chunk.len(), 128 * width - held);
     let mut room = state.room;
     copy_in(&mut room, held, chunk, taken);
@@ -122,8 +122,8 @@ pub fn ask(state: State, output: &mut [u64]) -> TrickleAnswer
     ensures { λ r. ⌜ r ≡ askAnswer state (now (output .entry)) ⌝ }
     ensures { λ _. ⌜ now (output .exit) ≡ askLeaves state (now (output .entry)) ⌝ }
 {
-    let width = if_fits(state.width, state.held, state.width);
-    let held = if_fits(state.width, state.held, state.held);
+    let width = if_can_be(state.width, state.held, state.width);
+    let held = if_can_be(state.width, state.held, state.held);
     if output.len() != 1024 {
         return TrickleAnswer::Block;
     }
@@ -136,18 +136,18 @@ pub fn ask(state: State, output: &mut [u64]) -> TrickleAnswer
 }
 
 // The number n of a state of this width with so many bytes held; 0 where there can be no such state.
-fn if_fits(width: usize, held: usize, n: usize) -> usize
-    ensures { λ r. ⌜ r ≡ pick (fitsIn width held) n 0 ⌝ }
+fn if_can_be(width: usize, held: usize, n: usize) -> usize
+    ensures { λ r. ⌜ r ≡ pick (canBe width held) n 0 ⌝ }
 {
-    if fits(width, held) {
+    if can_be(width, held) {
         return n;
     }
     0
 }
 
 // Whether there can be a state of this width with so many bytes held.
-fn fits(width: usize, held: usize) -> bool
-    ensures { λ r. ⌜ r ≡ fitsIn width held ⌝ }
+fn can_be(width: usize, held: usize) -> bool
+    ensures { λ r. ⌜ r ≡ canBe width held ⌝ }
 {
     (width <= 64) && (held <= 128 * width)
 }

@@ -23,7 +23,8 @@ slice-aggregate-values-through c = sym (lent _ (omega arith))
 
 values-through-requires : tie.Need-values-through-requires
 values-through-requires c κs =
-    (search needs, (search needs, (lent _ (omega arith) ∙ omega arith, search needs)))
+    let w = c .before .before .before .before .args .width in
+    (search needs, (search needs, (lent w (omega arith) ∙ omega arith, search needs)))
 
 same-length : tie.Need-same-length
 same-length c = search needs

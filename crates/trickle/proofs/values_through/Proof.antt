@@ -28,12 +28,15 @@ same-length-2 c = search needs
 returns : tie.Need-returns
 returns c =
     let out = c .before .before in
-    let read = out .before .before .before .before in
+    let read = out .before .before .before .before .before in
     let start = read .before .before .before .before .before in
     let args = start .args in
+    let pre = start .pre in
+    let w = args .width in
     let body = now (args .body) in
-    let n = 16 * args .width in
-    ?
+    out .unpack .ensures .1
+    ∙ ap (unpackLeaves t64 w (now (args .output))) (read .read-words .ensures ∙ numbers-read 8 body (now (args .words)) (16 * w) (pre .1 .1 .0) (omega arith))
+    ∙ unpack-leaves t64 w (now (args .output)) (numbersOf 8 body (16 * w)) (pre .0) (pre .1 .1 .1) (length-numbers 8 body (16 * w))
 
 pub values-through-spec : {M : Type 1} → statement M
 values-through-spec =
