@@ -1,7 +1,8 @@
 -- A packed u64 body that comes in chunks (document 02, Item 10): what a state counts as, and what start, feed and ask give for every input.
 -- Assumes nothing.
 use mathlib.Core.Bool.{Bool}
-use mathlib.Core.List.{List, [], _∷_}
+use mathlib.Core.List.{List, [], _∷_, _++_}
+use mathlib.Core.Path.{_≡_}
 use Prim.Native.Nat.{ℕ, _+_, _-_, _*_, min}
 use lib.Dec.{leb}
 use lib.ListN.{length, take, replicate}
@@ -91,3 +92,23 @@ valuesOf s = unpackOf t64 (widthOf s) (wordsOf s)
 -- Ask leaves this in its output.
 unfoldable pub askLeaves : (s : State) (output : List ℕ) → List ℕ
 askLeaves s output = left (askAnswer s output) (valuesOf s) output
+
+-- ---- many feeds
+
+-- These chunks are fed one after another. The bytes that each feed takes are added up.
+unfoldable pub fedAll : (s : State) (chunks : List (List ℕ)) → Fed
+fedAll s [] = record { taken = 0; state = s }
+fedAll s (chunk ∷ chunks) = record {
+  taken = takenOf s chunk + fedAll (stateAfter s chunk) chunks .taken;
+  state = fedAll (stateAfter s chunk) chunks .state;
+}
+
+-- These are the bytes of all chunks, one chunk after another.
+unfoldable pub bytesOfAll : (chunks : List (List ℕ)) → List ℕ
+bytesOfAll [] = []
+bytesOfAll (chunk ∷ chunks) = chunk ++ bytesOfAll chunks
+
+-- Two states hold the same: they count as having one width, and the same bytes held.
+pub record Same (a b : State) : Type 0 where
+  pub width : widthOf a ≡ widthOf b
+  pub bytes : heldOf a ≡ heldOf b

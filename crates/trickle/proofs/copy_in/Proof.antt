@@ -7,7 +7,7 @@ use denote.Ref.{now}
 use lib.ListN.{length, getD}
 use Rattle.places.specs.Tab.{tab, over}
 use Rattle.places.proofs.Tabs.{Written, written-none, written-next, written-length}
-use Rattle.trickle.proofs.States.{take-tab}
+use Rattle.trickle.proofs.Fronts.{take-tab}
 use Rattle.trickle.proofs.copy_in.Statement.{statement}
 use Rattle.trickle.proofs.copy_in.Tie as tie
 
