@@ -100,7 +100,7 @@ module _ (s : State) (a b : List ℕ) where
       let first = take (takenOf s a) a in
       let second = take (takenOf (stateAfter s a) b) b in
       let fit : countOf s + length first + length second ≤ length (s .room) =
-          omega (arith, long-taken s a, long-taken (stateAfter s a) b, taken-both, taken-most s (a ++ b) .1, counted s .0, long) in
+      omega (arith, long-taken s a, long-taken (stateAfter s a) b, taken-both, taken-most s (a ++ b) .1, counted s .0, long) in
       let held : countOf (stateAfter s a) + takenOf (stateAfter s a) b ≡ countOf s + takenOf s (a ++ b) = omega (arith, after-count s a, taken-both) in
       λ i. record {
         width = after-width s a i;
@@ -122,3 +122,9 @@ unfolding fedAll bytesOfAll
 all-after s long [] = sym (after-nothing s [] (taken-none s))
 all-after s long (chunk ∷ chunks) =
     all-after (stateAfter s chunk) (after-long s chunk long) chunks ∙ after-both s chunk (bytesOfAll chunks) long
+
+-- the room keeps its length
+pub all-long : (s : State) → length (s .room) ≡ 8192 → (chunks : List (List ℕ)) → length (fedAll s chunks .state .room) ≡ 8192
+unfolding fedAll
+all-long s long [] = long
+all-long s long (chunk ∷ chunks) = all-long (stateAfter s chunk) (after-long s chunk long) chunks

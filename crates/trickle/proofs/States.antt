@@ -3,11 +3,12 @@
 use mathlib.Core.Bool.{Bool, true, false}
 use mathlib.Core.List.{List, []}
 use mathlib.Core.Path.{_≡_, refl, ap}
-use Prim.Native.Nat.{ℕ, _*_, _≤_}
+use Prim.Native.Nat.{ℕ, _≤_, _<_}
+use native.Mathlib.Decide.{decLe}
 use native.Mathlib.Omega.{arith}
 use lib.ListN.{length, take}
 use lib.Seq.{length-take-le}
-use borrow.Author.Tests.{leb-true, le-leb}
+use borrow.Author.Tests.{leb-true, le-leb, lt-leb}
 use Rattle.places.specs.Pick.{pick}
 use Rattle.places.proofs.Tests.{both-true}
 use Rattle.trickle.specs.declared.State.{State}
@@ -55,6 +56,14 @@ module _ (s : State) (narrow : s .width ≤ 64) (few : s .held ≤ bodySize (s .
   pub itself : countsAs s ≡ s
   unfolding countsAs
   itself = λ i. record { width = width-itself i; held = count-itself i; room = s .room }
+
+-- More bytes than the body has cannot be held, at any width.
+pub too-many : (w h : ℕ) → bodySize w < h → canBe w h ≡ false
+too-many w h g =
+    elim (decLe w 64) [
+      | yes narrow ↦ simp (le-leb w 64 narrow, lt-leb h (bodySize w) g)
+      | no other ↦ let wide : 64 < w = omega arith in simp (lt-leb w 64 wide)
+    ]
 
 -- One that cannot be counts as the state of width 0 with nothing held.
 pub none : (s : State) → canBe (s .width) (s .held) ≡ false → (widthOf s ≡ 0) × (heldOf s ≡ [])

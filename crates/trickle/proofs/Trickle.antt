@@ -3,17 +3,19 @@
 -- laws ask for this where they need it, and of a state in a program the prover knows it.
 -- Assumes nothing.
 use mathlib.Core.Bool.{false}
-use mathlib.Core.List.{List, [], _++_}
+use mathlib.Core.List.{List, [], _∷_, _++_}
 use mathlib.Core.Logic.{_↔_}
-use mathlib.Core.Path.{_≡_, refl, sym, ap, ap₂, _∙_}
+use mathlib.Core.Path.{_≡_, sym, ap, ap₂, subst, _∙_}
 use Prim.Native.Nat.{ℕ, _*_, _≤_, _<_}
 use native.Mathlib.Decide.{decLe, ℕ-discrete}
 use native.Mathlib.Omega.{arith}
-use lib.ListN.{length, take, length-take, length-replicate}
+use lib.ListN.{length, take, length-replicate}
+use lib.Seq.{length-take-le, take-all}
+use borrow.Author.Tests.{lt-leb}
 use Rattle.places.specs.Answers.{numberOf as numberIn, left as leftIn}
 use Rattle.places.specs.Sizes.{t64, lanes}
 use Rattle.places.specs.Takes.{answerFor}
-use Rattle.places.proofs.Answers.{number-apart, left-refused as left-refused-in}
+use Rattle.places.proofs.Answers.{number-apart}
 use Rattle.packing.specs.Calls.{packTakes, unpackLeaves}
 use Rattle.packing.specs.Packed.{unpackOf}
 use Rattle.packing.proofs.Answers.{bad-block, good-block}
@@ -23,11 +25,12 @@ use Rattle.trickle.specs.declared.State.{State}
 use Rattle.trickle.specs.declared.Fed.{Fed}
 use Rattle.trickle.specs.declared.TrickleAnswer.{TrickleAnswer}
 use Rattle.trickle.specs.declared.TrickleAnswer.the-variants.{Done, Width, Block, Early}
-use Rattle.trickle.specs.Answers.{numberOf, left}
+use Rattle.trickle.specs.Answers.{a-block, all-there, trickleAnswer, numberOf, left}
+use Rattle.trickle.specs.Plain.{Reason, no-block, early, whole, wide, overfull}
 use Rattle.trickle.specs.Trickle.{bodySize, canBe, widthOf, countOf, heldOf, countsAs, startAnswer, startedOf, takenOf, stateAfter, fedOf, askAnswer, wordsOf, valuesOf, askLeaves, fedAll, bytesOfAll, Same}
 use Rattle.trickle.proofs.Answers.{start-wide, start-done, ask-block, ask-early, ask-done, left-refused}
-use Rattle.trickle.proofs.Feeds.{after-nothing, after-held, after-width, after-count, all-taken, all-after}
-use Rattle.trickle.proofs.States.{counted, width-itself, counts-width, counts-held, length-held}
+use Rattle.trickle.proofs.Feeds.{after-nothing, after-held, after-width, all-taken, all-after, all-long}
+use Rattle.trickle.proofs.States.{counted, width-itself, count-itself, too-many, none, counts-width, counts-held, length-held}
 
 -- ---- the cuts make no difference
 
@@ -44,9 +47,10 @@ module _ (s : State) (long : length (s .room) ≡ 8192) (xs ys : List (List ℕ)
 pub all-held : (s : State) → length (s .room) ≡ 8192 → (chunks : List (List ℕ))
     → (widthOf (fedAll s chunks .state) ≡ widthOf s) × (heldOf (fedAll s chunks .state) ≡ take (bodySize (widthOf s)) (heldOf s ++ bytesOfAll chunks))
 all-held s long chunks =
-    let last = fedAll s chunks .state in
-    (sym (counts-width last) ∙ ap widthOf (all-after s long chunks) ∙ after-width s (bytesOfAll chunks),
-      sym (counts-held last) ∙ ap heldOf (all-after s long chunks) ∙ after-held s (bytesOfAll chunks) long)
+    let last = fedAll s chunks .state in (
+      sym (counts-width last) ∙ ap widthOf (all-after s long chunks) ∙ after-width s (bytesOfAll chunks),
+      sym (counts-held last) ∙ ap heldOf (all-after s long chunks) ∙ after-held s (bytesOfAll chunks) long,
+    )
 
 -- ---- a full state takes no more
 
@@ -66,9 +70,7 @@ length-words s = length-numbers 8 (heldOf s) (lanes t64 * widthOf s)
 
 -- When the bytes of the body are all there, ask answers as unpack does on the body's words, and leaves what unpack leaves.
 module _ (s : State) (full : countOf s ≡ bodySize (widthOf s)) (output : List ℕ) where
-  unpackAnswer = answerFor (packTakes t64 (widthOf s) output (wordsOf s))
-
-  pub full-answer : numberOf (askAnswer s output) ≡ numberIn unpackAnswer
+  pub full-answer : numberOf (askAnswer s output) ≡ numberIn (answerFor (packTakes t64 (widthOf s) output (wordsOf s)))
   full-answer =
       elim (ℕ-discrete (length output) 1024) [
         | yes o ↦
@@ -114,12 +116,137 @@ module _ (a b : State) (la : length (a .room) ≡ 8192) (lb : length (b .room) �
 
   -- and by ask.
   pub same-answer : (output : List ℕ) → askAnswer a output ≡ askAnswer b output
-  same-answer output = ?
+  unfolding askAnswer
+  same-answer output = ap₂ (λ w n. trickleAnswer (a-block output ∷ all-there (bodySize w) n ∷ [])) (same .width) same-count
 
   pub same-leaves : (output : List ℕ) → askLeaves a output ≡ askLeaves b output
   unfolding askLeaves valuesOf wordsOf
-  same-leaves output = ?
+  same-leaves output = λ i. left (same-answer output i) (unpackOf t64 (same .width i) (numbersOf 8 (same .bytes i) (lanes t64 * same .width i))) output
 
 -- A state counts as one that holds the same.
 pub same-counts : (s : State) → Same (countsAs s) s
 same-counts s = record { width = counts-width s; bytes = counts-held s }
+
+-- ---- when each number is given
+
+-- A start is done exactly when the width is at most 64, and else refused,
+module _ (w : ℕ) where
+  pub start-is-done : (startAnswer w ≡ Done) ↔ (w ≤ 64)
+  start-is-done = (decided, start-done w)
+    where
+      decided : startAnswer w ≡ Done → w ≤ 64
+      decided e =
+          elim (decLe w 64) [
+            | yes h ↦ h
+            | no h ↦ absurd (number-apart (ap numberOf (sym (start-wide w (omega arith)) ∙ e)))
+          ]
+
+  pub start-is-refused : (startAnswer w ≡ Width) ↔ (64 < w)
+  start-is-refused = (decided, start-wide w)
+    where
+      decided : startAnswer w ≡ Width → 64 < w
+      decided e =
+          elim (decLe w 64) [
+            | yes h ↦ absurd (number-apart (ap numberOf (sym e ∙ start-done w h)))
+            | no h ↦ omega arith
+          ]
+
+  -- and then it gives the state of width 0.
+  pub refused-start : 64 < w → startedOf w .state ≡ startedOf 0 .state
+  unfolding startedOf trickleAnswer
+  refused-start h = λ i. record { width = ap (λ a. left a w 0) (start-wide w h) i; held = 0; room = startedOf 0 .state .room }
+
+-- An ask has the answer for which it has the reason, and no other.
+module _ (s : State) (output : List ℕ) where
+  -- a state that cannot be counts as one of width 0, which is full
+  cannot : length output ≡ 1024 → canBe (s .width) (s .held) ≡ false → askAnswer s output ≡ Done
+  cannot o e = ask-done s output o (omega (arith, none s e .0))
+
+  by-reason : {a : TrickleAnswer} → Reason s output a → askAnswer s output ≡ a
+  by-reason (no-block o) = ask-block s output o
+  by-reason (early o w h) =
+      let few : s .held ≤ bodySize (s .width) = omega arith in
+      ask-early s output o (omega (arith, width-itself s w few, count-itself s w few)) ∙ ap Early (count-itself s w few)
+  by-reason (whole o w h) =
+      let few : s .held ≤ bodySize (s .width) = omega arith in
+      ask-done s output o (omega (arith, width-itself s w few, count-itself s w few))
+  by-reason (wide o w) = cannot o (simp (lt-leb (s .width) 64 w))
+  by-reason (overfull o h) = cannot o (too-many (s .width) (s .held) h)
+
+  reason : Reason s output (askAnswer s output)
+  reason =
+      elim (ℕ-discrete (length output) 1024) [
+        | no o ↦ given (no-block o)
+        | yes o ↦
+            elim (decLe (s .width) 64) [
+              | no w ↦ given (wide o (omega arith))
+              | yes w ↦
+                  elim (decLe (s .held) (128 * s .width)) [
+                    | no h ↦ given (overfull o (omega arith))
+                    | yes h ↦
+                        elim (decLe (128 * s .width) (s .held)) [
+                          | yes g ↦ given (whole o w (omega arith))
+                          | no g ↦ given (early o w (omega arith))
+                        ]
+                  ]
+            ]
+      ]
+    where
+      given : {a : TrickleAnswer} → Reason s output a → Reason s output (askAnswer s output)
+      given r = subst (Reason s output) (sym (by-reason r)) r
+
+  pub ask-reason : (a : TrickleAnswer) → (askAnswer s output ≡ a) ↔ Reason s output a
+  ask-reason a = (λ e. subst (Reason s output) e reason, by-reason)
+
+-- ---- from the start to the values
+
+-- A body of width w comes in chunks: this is the state after all of them.
+abbrev pub trickled : (w : ℕ) (chunks : List (List ℕ)) → State
+trickled w chunks = fedAll (startedOf w .state) chunks .state
+
+module _ (w : ℕ) (narrow : w ≤ 64) where
+  started-width : startedOf w .state .width ≡ w
+  unfolding startedOf
+  started-width = ap (λ a. left a w 0) (start-done w narrow)
+
+  started-long : length (startedOf w .state .room) ≡ 8192
+  unfolding startedOf
+  started-long = length-replicate {A = ℕ} 8192 0
+
+  started : (widthOf (startedOf w .state) ≡ w) × (heldOf (startedOf w .state) ≡ [])
+  unfolding startedOf heldOf
+  started =
+      let s = startedOf w .state in
+      let small : s .width ≤ 64 = omega (arith, started-width, narrow) in
+      (width-itself s small (omega arith) ∙ started-width, ap (λ n. take n (s .room)) (count-itself s small (omega arith)))
+
+  module _ (chunks : List (List ℕ)) where
+    -- It holds the first 128·w bytes of the chunks.
+    pub trickled-holds : (widthOf (trickled w chunks) ≡ w) × (heldOf (trickled w chunks) ≡ take (bodySize w) (bytesOfAll chunks))
+    trickled-holds =
+        let all = all-held (startedOf w .state) started-long chunks in
+        (all .0 ∙ started .0, all .1 ∙ ap₂ (λ w l. take (bodySize w) (l ++ bytesOfAll chunks)) (started .0) (started .1))
+
+    trickled-count : countOf (trickled w chunks) ≡ length (take (bodySize w) (bytesOfAll chunks))
+    trickled-count = sym (length-held (trickled w chunks) (all-long (startedOf w .state) started-long chunks)) ∙ ap length (trickled-holds .1)
+
+    module _ (output : List ℕ) (block : length output ≡ 1024) where
+      -- Where these are all there, an ask gives the values of the packed words that the bytes make,
+      pub trickled-values : bodySize w ≤ length (bytesOfAll chunks)
+          → (askAnswer (trickled w chunks) output ≡ Done)
+          × (askLeaves (trickled w chunks) output ≡ unpackOf t64 w (numbersOf 8 (take (bodySize w) (bytesOfAll chunks)) (lanes t64 * w)))
+      unfolding askLeaves valuesOf wordsOf
+      trickled-values enough =
+          let s = trickled w chunks in
+          let done = ask-done s output block (omega (arith, trickled-count, trickled-holds .0, length-take-le (bodySize w) (bytesOfAll chunks) enough)) in (
+            done,
+            ap (λ a. left a (valuesOf s) output) done
+                ∙ ap₂ (λ w l. unpackOf t64 w (numbersOf 8 l (lanes t64 * w))) (trickled-holds .0) (trickled-holds .1),
+          )
+
+      -- and where they are not, the place of its refusal is how many came.
+      pub trickled-early : length (bytesOfAll chunks) < bodySize w → askAnswer (trickled w chunks) output ≡ Early (length (bytesOfAll chunks))
+      trickled-early few =
+          let s = trickled w chunks in
+          let came : countOf s ≡ length (bytesOfAll chunks) = trickled-count ∙ ap length (take-all (bodySize w) (bytesOfAll chunks) (omega arith)) in
+          ask-early s output block (omega (arith, came, trickled-holds .0)) ∙ ap Early came

@@ -48,7 +48,7 @@ returns-2 c =
     let args = second .before .before .before .args in
     let is = known second in
     let given = refused (args .state) (now (args .output))
-        (ask-early (args .state) (now (args .output)) (c .before .if1 .left) (omega (arith, c .if2 .taken, is .width, is .count))) number-apart in
+    (ask-early (args .state) (now (args .output)) (c .before .if1 .left) (omega (arith, c .if2 .taken, is .width, is .count))) number-apart in
     (ap Early (is .count) ∙ given .0, given .1)
 
 array-share-prefix-room : tie.Need-array-share-prefix-room

@@ -56,7 +56,7 @@ returns c =
     let chunk = now (args .chunk) in
     let is = known (call .before) in
     let taken : call .shorter .result ≡ takenOf s chunk =
-        call .shorter .ensures ∙ ap₂ (λ w h. min (length chunk) (128 * w - h)) (is .width) (is .count) in
+    call .shorter .ensures ∙ ap₂ (λ w h. min (length chunk) (128 * w - h)) (is .width) (is .count) in
     λ i. record {
       taken = taken i;
       state = record {
