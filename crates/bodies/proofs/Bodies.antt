@@ -16,7 +16,6 @@ use Rattle.places.specs.Pick.{pick}
 use Rattle.places.specs.Search.{firstBeyond}
 use Rattle.places.specs.Sizes.{t64, lanes}
 use Rattle.places.specs.Takes.{answerFor}
-use Rattle.places.proofs.Tabs.{length-tab}
 use Rattle.packing.specs.Calls.{unpackLeaves}
 use Rattle.packing.specs.Packed.{unpackOf}
 use Rattle.packing.proofs.Answers.{unpack-leaves}
@@ -27,7 +26,7 @@ use Rattle.runs.specs.Calls.{decodeTakes, decodeLeaves}
 use Rattle.runs.specs.Highest.{highestOf}
 use Rattle.runs.specs.Runs.{decodeOf}
 use Rattle.runs.proofs.Highs.{highest-beyond}
-use Rattle.little.specs.Little.{numbersOf, readLeaves}
+use Rattle.little.specs.Little.{readLeaves}
 pub use Rattle.little.proofs.Little.{length-numbers, numbers-read}
 use Rattle.contents.specs.declared.Entry.{Entry}
 use Rattle.contents.specs.declared.FileAnswer.{FileAnswer}

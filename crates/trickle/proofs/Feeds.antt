@@ -1,17 +1,16 @@
 -- The laws of feeds: what is held after one, and that two feeds one after another are one feed of both chunks.
 -- Assumes nothing.
-use mathlib.Core.List.{List, [], _∷_, _++_, append-assoc}
-use mathlib.Core.Path.{_≡_, refl, sym, ap, ap₂, _∙_}
-use Prim.Native.Nat.{ℕ, _+_, _-_, _*_, _≤_, _<_, min}
+use mathlib.Core.List.{List, [], _∷_, _++_}
+use mathlib.Core.Path.{_≡_, sym, ap, ap₂, _∙_}
+use Prim.Native.Nat.{ℕ, _+_, _-_, _≤_}
 use native.Mathlib.Nat.{add-zero}
 use native.Mathlib.Omega.{arith}
-use lib.ListN.{length, take, length-append, length-take}
+use lib.ListN.{length, take, length-append}
 use lib.Seq.{length-take-le, take-all}
 use Rattle.places.specs.Tab.{over}
 use Rattle.places.proofs.Overs.{length-over, over-nothing, over-append}
 use Rattle.trickle.specs.declared.State.{State}
-use Rattle.trickle.specs.declared.Fed.{Fed}
-use Rattle.trickle.specs.Trickle.{bodySize, widthOf, countOf, heldOf, countsAs, takenOf, stateAfter, fedOf, fedAll, bytesOfAll}
+use Rattle.trickle.specs.Trickle.{bodySize, widthOf, countOf, heldOf, countsAs, takenOf, stateAfter, fedAll, bytesOfAll}
 use Rattle.trickle.proofs.Fronts.{front-min, front-both, front-over, before-over}
 use Rattle.trickle.proofs.States.{counted, width-itself, count-itself, length-held}
 

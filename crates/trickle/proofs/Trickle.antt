@@ -22,15 +22,14 @@ use Rattle.packing.proofs.Answers.{bad-block, good-block}
 use Rattle.little.specs.Little.{numbersOf}
 use Rattle.little.proofs.Little.{length-numbers}
 use Rattle.trickle.specs.declared.State.{State}
-use Rattle.trickle.specs.declared.Fed.{Fed}
 use Rattle.trickle.specs.declared.TrickleAnswer.{TrickleAnswer}
-use Rattle.trickle.specs.declared.TrickleAnswer.the-variants.{Done, Width, Block, Early}
+use Rattle.trickle.specs.declared.TrickleAnswer.the-variants.{Done, Width, Early}
 use Rattle.trickle.specs.Answers.{a-block, all-there, trickleAnswer, numberOf, left}
 use Rattle.trickle.specs.Plain.{Reason, no-block, early, whole, wide, overfull}
 use Rattle.trickle.specs.Trickle.{bodySize, canBe, widthOf, countOf, heldOf, countsAs, startAnswer, startedOf, takenOf, stateAfter, fedOf, askAnswer, wordsOf, valuesOf, askLeaves, fedAll, bytesOfAll, Same}
 use Rattle.trickle.proofs.Answers.{start-wide, start-done, ask-block, ask-early, ask-done, left-refused}
 use Rattle.trickle.proofs.Feeds.{after-nothing, after-held, after-width, all-taken, all-after, all-long}
-use Rattle.trickle.proofs.States.{counted, width-itself, count-itself, too-many, none, counts-width, counts-held, length-held}
+use Rattle.trickle.proofs.States.{counted, width-itself, count-itself, itself, too-many, none, counts-width, counts-held, length-held}
 
 -- ---- the cuts make no difference
 
@@ -60,6 +59,13 @@ unfolding fedOf takenOf
 full-fed s full chunk =
     let nothing : takenOf s chunk ≡ 0 = omega (arith, full) in
     (nothing, after-nothing s chunk nothing)
+
+-- Of a state that can be, that is the state itself: nothing is changed.
+pub full-kept : (s : State) → s .width ≤ 64 → s .held ≡ bodySize (s .width) → (chunk : List ℕ) → (fedOf s chunk .taken ≡ 0) × (fedOf s chunk .state ≡ s)
+full-kept s narrow full chunk =
+    let few : s .held ≤ bodySize (s .width) = omega arith in
+    let fed = full-fed s (count-itself s narrow few ∙ full ∙ ap bodySize (sym (width-itself s narrow few))) chunk in
+    (fed .0, fed .1 ∙ itself s narrow few)
 
 -- ---- ask gives what unpack gives
 

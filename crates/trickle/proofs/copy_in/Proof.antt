@@ -4,7 +4,7 @@ use mathlib.Core.Path.{_≡_, refl, sym, ap, _∙_}
 use Prim.Native.Nat.{_-_, _≤_}
 use native.Mathlib.Omega.{arith}
 use denote.Ref.{now}
-use lib.ListN.{length, getD}
+use lib.ListN.{getD}
 use Rattle.places.specs.Tab.{tab, over}
 use Rattle.places.proofs.Tabs.{Written, written-none, written-next, written-length}
 use Rattle.trickle.proofs.Fronts.{take-tab}

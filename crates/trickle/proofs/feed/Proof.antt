@@ -26,7 +26,7 @@ mul-shorter : tie.Need-mul-shorter
 mul-shorter c = omega (arith, known c .narrow)
 
 sub-shorter : tie.Need-sub-shorter
-sub-shorter c = omega (arith, known c .within)
+sub-shorter c = omega (arith, known c .narrow, known c .within)
 
 shorter-requires : tie.Need-shorter-requires
 shorter-requires c κs = search needs
