@@ -6,7 +6,7 @@ use mathlib.Core.Bool.{false}
 use mathlib.Core.List.{List, [], _∷_, _++_}
 use mathlib.Core.Logic.{_↔_}
 use mathlib.Core.Path.{_≡_, sym, ap, ap₂, subst, _∙_}
-use Prim.Native.Nat.{ℕ, _*_, _≤_, _<_}
+use Prim.Native.Nat.{ℕ, _+_, _-_, _*_, _≤_, _<_, min}
 use native.Mathlib.Decide.{decLe, ℕ-discrete}
 use native.Mathlib.Omega.{arith}
 use lib.ListN.{length, take, length-replicate}
@@ -14,6 +14,7 @@ use lib.Seq.{length-take-le, take-all}
 use borrow.Author.Tests.{lt-leb}
 use Rattle.places.specs.Answers.{numberOf as numberIn, left as leftIn}
 use Rattle.places.specs.Sizes.{t64, lanes}
+use Rattle.places.specs.Tab.{over}
 use Rattle.places.specs.Takes.{answerFor}
 use Rattle.places.proofs.Answers.{number-apart}
 use Rattle.packing.specs.Calls.{packTakes, unpackLeaves}
@@ -29,7 +30,7 @@ use Rattle.trickle.specs.Plain.{Reason, no-block, early, whole, wide, ov
 use Rattle.trickle.specs.Trickle.{bodySize, canBe, widthOf, countOf, heldOf, countsAs, startAnswer, startedOf, takenOf, stateAfter, fedOf, askAnswer, wordsOf, valuesOf, askLeaves, fedAll, bytesOfAll, Same}
 use Rattle.trickle.proofs.Answers.{start-wide, start-done, ask-block, ask-early, ask-done, left-refused}
 use Rattle.trickle.proofs.Feeds.{after-nothing, after-held, after-width, all-taken, all-after, all-long}
-use Rattle.trickle.proofs.States.{counted, width-itself, count-itself, itself, too-many, none, counts-width, counts-held, length-held}
+use Rattle.trickle.proofs.States.{counted, width-itself, count-itself, itself, too-many, none, counts-width, counts-count, counts-held, length-held}
 
 -- ---- the cuts make no difference
 
@@ -129,9 +130,20 @@ module _ (a b : State) (la : length (a .room) ≡ 8192) (lb : length (b .room) �
   unfolding askLeaves valuesOf wordsOf
   same-leaves output = λ i. left (same-answer output i) (unpackOf t64 (same .width i) (numbersOf 8 (same .bytes i) (lanes t64 * same .width i))) output
 
--- A state counts as one that holds the same.
+-- A state counts as one that holds the same,
 pub same-counts : (s : State) → Same (countsAs s) s
 same-counts s = record { width = counts-width s; bytes = counts-held s }
+
+-- and a feed gives the same of both, to the last byte of the room.
+pub counts-fed : (s : State) (chunk : List ℕ) → fedOf (countsAs s) chunk ≡ fedOf s chunk
+unfolding fedOf stateAfter takenOf countsAs
+counts-fed s chunk =
+    let taken : takenOf (countsAs s) chunk ≡ takenOf s chunk =
+    ap₂ (λ w n. min (length chunk) (bodySize w - n)) (counts-width s) (counts-count s) in
+    λ i. record {
+      taken = taken i;
+      state = record { width = counts-width s i; held = counts-count s i + taken i; room = over (counts-count s i) (take (taken i) chunk) (s .room) };
+    }
 
 -- ---- when each number is given
 
