@@ -16,7 +16,6 @@ use Rattle.places.specs.Pick.{pick}
 use Rattle.places.specs.Search.{firstBeyond}
 use Rattle.places.specs.Sizes.{t64, lanes}
 use Rattle.places.specs.Takes.{answerFor}
-use Rattle.places.proofs.Tabs.{length-tab}
 use Rattle.packing.specs.Calls.{unpackLeaves}
 use Rattle.packing.specs.Packed.{unpackOf}
 use Rattle.packing.proofs.Answers.{unpack-leaves}
@@ -27,8 +26,8 @@ use Rattle.runs.specs.Calls.{decodeTakes, decodeLeaves}
 use Rattle.runs.specs.Highest.{highestOf}
 use Rattle.runs.specs.Runs.{decodeOf}
 use Rattle.runs.proofs.Highs.{highest-beyond}
-use Rattle.little.specs.Little.{numbersOf, readLeaves}
-use Rattle.little.proofs.Little.{read-all}
+use Rattle.little.specs.Little.{readLeaves}
+pub use Rattle.little.proofs.Little.{length-numbers, numbers-read}
 use Rattle.contents.specs.declared.Entry.{Entry}
 use Rattle.contents.specs.declared.FileAnswer.{FileAnswer}
 use Rattle.contents.specs.declared.FileAnswer.the-variants.{Done, Block, Cut, BadEntry, Over, Runs}
@@ -38,17 +37,7 @@ use Rattle.contents.proofs.Answers.{passed, stopped, none-left, left-refused}
 use Rattle.contents.proofs.Laid.{laid-packed, laid-frame}
 use Rattle.bodies.specs.Bodies.{wordsFrom, packedFrom, runIndices, valueCount, blockOf, indexed, hasGoodRuns, bodyTests, blockTests, blockLeaves}
 
--- There are as many numbers as are asked for.
-pub length-numbers : (k : ℕ) (bytes : List ℕ) (n : ℕ) → length (numbersOf k bytes n) ≡ n
-unfolding numbersOf
-length-numbers k bytes n = length-tab n _
-
--- Where there are enough bytes, a list of n places that is read from them holds their first n numbers.
-pub numbers-read : (k : ℕ) (bytes numbers : List ℕ) (n : ℕ) → length numbers ≡ n → k * n ≤ length bytes
-    → readLeaves k bytes numbers ≡ numbersOf k bytes n
-numbers-read k bytes numbers n l h = read-all k bytes numbers (rw l h) ∙ ap (numbersOf k bytes) l
-
--- The same holds of words that are read from the part of a body that begins at byte `at`.
+-- Words are read from the part of a body that begins at byte `at` as they are from its front.
 pub words-read : (body words : List ℕ) (at n : ℕ) → length words ≡ n → at + 8 * n ≤ length body
     → readLeaves 8 (take (length body - at) (drop at body)) words ≡ wordsFrom body at n
 words-read body words at n l h =

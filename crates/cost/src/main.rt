@@ -6,7 +6,7 @@
 //     t         the element size: 8, 16, 32 or 64
 //     width     the width, for the calls that take one
 //     start     the first value of the input block, and of a drawer also how many blocks there are; for the calls on a column file
-//               see column_files and column_writes
+//               see column_files and column_writes, and for those on a body that trickles in see trickles
 //     step      from each value to the next, modulo 256
 //     turns     how often to call again after the first call: three bytes, the lowest first
 //
@@ -15,7 +15,7 @@
 // and all that a call takes is known at run time only.
 //
 // Here the request is read and the line is printed. The modules t8, t16, t32 and t64 make the calls, bit_blocks those on bit blocks,
-// column_files and column_writes those on column files, and element turns bytes into elements and these into numbers.
+// column_files and column_writes those on column files, trickles those on a body that trickles in, and element turns bytes into elements and these into numbers.
 mod bit_blocks;
 mod column_files;
 mod column_writes;
@@ -24,6 +24,7 @@ mod t16;
 mod t32;
 mod t64;
 mod t8;
+mod trickles;
 
 use element::byte_to_usize;
 use libc::STDIN_FILENO;
@@ -100,6 +101,9 @@ fn run(request: Request) -> Outcome {
     }
     if op == 24 || op == 25 {
         return on_drawer(request);
+    }
+    if op == 26 {
+        return trickles::run(request);
     }
     let t = request.t;
     match t {

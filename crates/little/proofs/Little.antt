@@ -11,6 +11,7 @@ use lib.Dec.{leb}
 use lib.ListN.{length, getD, List·getD-append}
 use borrow.Author.Tests.{le-leb, lt-leb}
 use Rattle.places.specs.Pick.{pick}
+use Rattle.places.proofs.Tabs.{length-tab}
 use Rattle.little.specs.Little.{little, littleOr, numbersOf, readLeaves}
 
 -- one byte
@@ -91,3 +92,13 @@ module _ (k : ℕ) (bytes numbers : List ℕ) where
   pub read-none : length bytes < k * length numbers → readLeaves k bytes numbers ≡ numbers
   unfolding readLeaves
   read-none h = simp (lt-leb (k * length numbers) (length bytes) h)
+
+-- There are as many numbers as are asked for.
+pub length-numbers : (k : ℕ) (bytes : List ℕ) (n : ℕ) → length (numbersOf k bytes n) ≡ n
+unfolding numbersOf
+length-numbers k bytes n = length-tab n _
+
+-- Where there are enough bytes, a list of n places that is read from them holds their first n numbers.
+pub numbers-read : (k : ℕ) (bytes numbers : List ℕ) (n : ℕ) → length numbers ≡ n → k * n ≤ length bytes
+    → readLeaves k bytes numbers ≡ numbersOf k bytes n
+numbers-read k bytes numbers n l h = read-all k bytes numbers (rw l h) ∙ ap (numbersOf k bytes) l

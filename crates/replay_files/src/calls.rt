@@ -1,5 +1,6 @@
 // The calls: what each takes, and how those on files are made. A call has a line in `takes`; one that reads a file has a line
-// in `call`, the one that writes a file is made by `write`, and the calls on drawers are made in the modules of the sizes.
+// in `call`, the one that writes a file is made by `write`, the calls on drawers are made in the modules of the sizes, and those
+// on a body that trickles in in trickles.
 use contents::FileAnswer;
 use files::Row;
 use stream::Head;
@@ -31,6 +32,8 @@ fn takes(op: u8, size: usize) -> Intake {
         18 => Intake::of(1, 0, 0, true),
         19 => Intake::of(8, 0, 1, false),
         24 | 25 => Intake::of(size, 0, size, true),
+        26 => Intake::of(1, 8, 8, false),
+        30 => Intake::of(1, 8, 8, true),
         _ => Intake::of(0, 0, 0, false),
     }
 }
@@ -40,11 +43,22 @@ pub fn is_drawer(op: u8) -> bool {
     op == 24 || op == 25
 }
 
+// Whether the call is one on a body that trickles in. Then it takes a width.
+pub fn is_trickle(op: u8) -> bool {
+    op == 26 || op == 30
+}
+
+// Whether call 30 can have this state: the one that a start gave, or one made by hand, whose room is there.
+fn is_trickle_state(head: Head) -> bool {
+    head.reference == 1 || (head.reference == 0 && 8192 <= head.n_a)
+}
+
 // Whether a record can have this head.
 pub fn is_possible(head: Head) -> bool {
     let takes = takes(head.op, (head.t / 8) as usize);
     (head.t == 64 || (is_drawer(head.op) && is_small(head.t)))
-        && (is_drawer(head.op) || head.width == 0)
+        && (is_drawer(head.op) || is_trickle(head.op) || head.width == 0)
+        && (head.op != 30 || is_trickle_state(head))
         && head.zero == 0
         && (takes.index || head.index == 0)
         && fits(head.n_a, takes.a)

@@ -93,7 +93,7 @@ fn write_on_parts(head: Head, a: &[u64], c: &mut [u8]) -> Reply {
 }
 
 // What comes of the case with this head, from what its call gave back and left in c, and from the bytes that c is to have.
-fn judge(head: Head, reply: Reply, c: &[u64], c_exit: &[u8]) -> Step
+pub fn judge(head: Head, reply: Reply, c: &[u64], c_exit: &[u8]) -> Step
     ensures { λ r. ⌜ (r ≡ Same → AsExpected head reply (now (c .entry)) (numbersOf 8 (now («c_exit» .entry)) (head .«n_c»)) [] []) ⌝ }
     ensures { λ r. ⌜ (head .«n_c» ≤ length (now (c .entry)) → 8 * head .«n_c» ≤ length (now («c_exit» .entry)) → AsExpected head reply (now (c .entry)) (numbersOf 8 (now («c_exit» .entry)) (head .«n_c»)) [] [] → r ≡ Same) ⌝ }
 {

@@ -9,7 +9,8 @@
 // a case that expects something else differs.
 //
 // Here stand the loop over the cases and the way to each. Of the modules, wire reads the stream; calls says what each call
-// takes; file_cases makes the calls on files, and t8, t16, t32 and t64 those on drawers; and print prints. The crate stream
+// takes; file_cases makes the calls on files, t8, t16, t32 and t64 those on drawers, and trickles those on a body that comes in
+// chunks; and print prints. The crate stream
 // has the head of a record, the judge and the counts.
 mod calls;
 mod file_cases;
@@ -18,10 +19,12 @@ mod t16;
 mod t32;
 mod t64;
 mod t8;
+mod trickles;
 mod wire;
 
 use calls::is_drawer;
 use calls::is_possible;
+use calls::is_trickle;
 use print::print_bad;
 use print::print_tally;
 use stream::Head;
@@ -90,10 +93,12 @@ fn next() -> Step {
 // share their room on the stack.
 fn case(head: Head) -> Step {
     if is_drawer(head.op) {
-        drawer_case(head)
-    } else {
-        file_cases::case(head)
+        return drawer_case(head);
     }
+    if is_trickle(head.op) {
+        return trickles::case(head);
+    }
+    file_cases::case(head)
 }
 
 // The case of a call on a drawer, at the size of its elements.

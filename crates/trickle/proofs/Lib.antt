@@ -1,0 +1,5 @@
+pub mod Answers
+pub mod Feeds
+pub mod Fronts
+pub mod States
+pub mod Trickle
