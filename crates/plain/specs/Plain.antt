@@ -5,9 +5,10 @@
 -- Width 0 and width t have no rule of their own.
 -- Assumes nothing.
 use mathlib.Core.List.{List}
-use Prim.Native.Nat.{ℕ, zero, suc, _+_, _-_, _*_, _/_, _%_}
+use mathlib.Core.Path.{_≡_}
+use Prim.Native.Nat.{ℕ, zero, suc, _+_, _-_, _*_, _/_, _%_, _<_}
 use lib.Dec.{eqb}
-use lib.ListN.{getD}
+use lib.ListN.{length, getD}
 use Rattle.places.specs.Numbers.{number, digit}
 use Rattle.places.specs.Pick.{pick}
 use Rattle.places.specs.Places.{place, lane, row}
@@ -50,6 +51,12 @@ wordIn t w values l k = number 1 (bitOf t w values l k) t
 -- The packed block has LANES · w words. Entry i is word i / LANES of lane i mod LANES.
 unfoldable pub plainPack : (t w : ℕ) (values : List ℕ) → List ℕ
 plainPack t w values = tab (lanes t * w) (λ i. wordIn t w values (i % lanes t) (i / lanes t))
+
+-- A packed block is laid out as the sentence says, for these values, where each bit of each row of each lane is the bit of the value there. That the
+-- block above is laid out so, and no other block of numbers of t bits is, is a law.
+pub record Laid (t w : ℕ) (values packed : List ℕ) : Type 0 where
+  pub whole : length packed ≡ lanes t * w
+  pub bits : (l r b : ℕ) → l < lanes t → r < t → b < w → bitAt t w packed l r b ≡ bit (getD values (place r l) 0) b
 
 -- Bit b of row r comes from a word that no bit before it came from where it is the first one, or the bit before it came from another word.
 unfoldable pub newWord : (t w r b : ℕ) → ℕ

@@ -11,7 +11,7 @@ pub mod t8;
 
 use places::order;
 ghost use mathlib.Core.Path.{_≡_};
-ghost use Prim.Native.Nat.{_+_, _≤_, _<_};
+ghost use Prim.Native.Nat.{_+_, _*_, _%_, _≤_, _<_};
 ghost use lib.Dec.{leb, ltb};
 ghost use Rattle.places.specs.Pick.{both};
 ghost use Rattle.places.specs.Places as Places;
@@ -61,13 +61,22 @@ fn lane_of(t: usize, p: usize) -> usize
     p - place(row_of(t, p), 0)
 }
 
-// The word of its lane that bit b of a row stands in.
+// The sentence's two numbers. The word of its lane that bit b of a row stands in:
 fn word_of(t: usize, width: usize, row: usize, b: usize) -> usize
     requires { ⌜ Size t ⌝ }
     requires { ⌜ (width ≤ t) × (row < t) × (b < width) ⌝ }
     ensures { λ k. ⌜ k ≡ wordOf t width row b ⌝ }
 {
     (row * width + b) / t
+}
+
+// And which bit of that word it is.
+fn bit_in_word(t: usize, width: usize, row: usize, b: usize) -> usize
+    requires { ⌜ Size t ⌝ }
+    requires { ⌜ (width ≤ t) × (row < t) × (b < width) ⌝ }
+    ensures { λ i. ⌜ i ≡ (row * width + b) % t ⌝ }
+{
+    (row * width + b) % t
 }
 
 // 1 where bit b of a row comes from another word than the bit before it, and for the first bit, before which there is none; else 0.
