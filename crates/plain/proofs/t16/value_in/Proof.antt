@@ -31,7 +31,7 @@ within : (c : tie.In-loop Inv-loop μ-loop)
 within c = lane-bit (c .before .before .before .pre .1 .1 .1) (c .loop-test .taken)
 
 word-of-requires : tie.Need-word-of-requires Inv-loop μ-loop
-word-of-requires c κs = (size16, (c .before .before .before .pre .0, c .before .before .before .pre .1 .1 .1, c .loop-test .taken))
+word-of-requires c κs = (size16, (c .before .before .before .pre .0, c .before .before .before .pre .1 .1 .1, omega arith))
 
 -- so its word is one of the lane's words
 word-within : (c : tie.After-word-of Inv-loop μ-loop) → c .word-of .result < c .before .before .before .before .args .width
