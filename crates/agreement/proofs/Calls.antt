@@ -3,11 +3,11 @@
 -- Assumes nothing.
 use mathlib.Core.Bool.{Bool, true, false}
 use mathlib.Core.List.{List}
-use mathlib.Core.Path.{_≡_, refl, sym, ap, ap₂, _∙_}
+use mathlib.Core.Path.{_≡_, refl, ap, ap₂, _∙_}
 use Prim.Native.Nat.{ℕ}
 use borrow.Author.Tests.{eqb-true}
 use Rattle.places.specs.declared.Answer.{Answer}
-use Rattle.places.specs.Answers.{numberOf, isDone, left}
+use Rattle.places.specs.Answers.{isDone, left}
 use Rattle.places.specs.Numbers.{Elements}
 use Rattle.places.specs.Pick.{pick}
 use Rattle.places.specs.Sizes.{Size}
@@ -15,7 +15,7 @@ use Rattle.places.specs.Takes.{answerFor}
 use Rattle.places.proofs.Answers.{number-done}
 use Rattle.packing.specs.Calls.{packTakes, packLeaves, unpackLeaves}
 use Rattle.packing.specs.Packed.{valueAt}
-use Rattle.access.specs.Calls.{singleTakes, singleOf}
+use Rattle.access.specs.Calls.{singleOf}
 use Rattle.access.specs.Counts.{countAt}
 use Rattle.plain.specs.Calls.{plainTakes, plainPackLeaves, plainUnpackLeaves, plainSingleTakes, plainSingle}
 use Rattle.plain.specs.Plain.{plainValue, plainCount}

@@ -1,13 +1,13 @@
 -- The laws behind the loops that make a number of its bits, the lowest first, over the element size.
 -- Assumes nothing.
 use mathlib.Core.List.{List}
-use mathlib.Core.Path.{_≡_, refl, sym, ap, ap₂, _∙_, subst}
-use Prim.Native.Nat.{ℕ, suc, _+_, _*_, _/_, _%_, _^_, _≤_, _<_}
-use native.Mathlib.Nat.{one-mul, add-comm, mul-comm, mod-lt, div-lt-iff-lt-mul}
+use mathlib.Core.Path.{_≡_, sym, ap, ap₂, _∙_, subst}
+use Prim.Native.Nat.{ℕ, _+_, _*_, _/_, _%_, _^_, _≤_, _<_}
+use native.Mathlib.Nat.{one-mul, mul-comm, mod-lt, div-lt-iff-lt-mul}
 use native.Mathlib.Numerals.{add-one}
 use native.Mathlib.Omega.{arith}
 use lib.Arith.{digits-lt}
-use lib.Pow.{pow-pos, pow-mono, shl-exact}
+use lib.Pow.{pow-mono, shl-exact}
 use Rattle.places.specs.Numbers.{number, digit}
 use Rattle.places.proofs.Digits.{number-lt, digit-lt}
 use Rattle.plain.specs.Plain.{bit, bitAt, bitOf}

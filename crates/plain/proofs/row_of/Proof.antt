@@ -1,7 +1,7 @@
 -- `plain::row_of` meets its contract. The loop's invariant: no row beyond the one that is looked for is passed.
 -- Assumes nothing.
 use mathlib.Core.Path.{sym, _∙_}
-use Prim.Native.Nat.{ℕ, _-_, _≤_, _<_}
+use Prim.Native.Nat.{_-_, _≤_, _<_}
 use native.Mathlib.Omega.{arith}
 use Rattle.places.specs.Places as Places
 use Rattle.plain.proofs.Words.{row-few, passed-on, found, not-true, not-false}

@@ -1,7 +1,7 @@
 -- `plain::words_for` meets its contract. The loop's invariant: the words of the first b bits are counted.
 -- Assumes nothing.
 use mathlib.Core.Path.{_≡_, refl, sym, ap, ap₂, _∙_}
-use Prim.Native.Nat.{ℕ, _+_, _-_, _≤_}
+use Prim.Native.Nat.{_+_, _-_, _≤_}
 use native.Mathlib.Omega.{arith}
 use Rattle.plain.specs.Plain.{wordsFor}
 use Rattle.plain.proofs.Words.{words-next, words-few, size-most}

@@ -2,13 +2,12 @@
 -- `plain::t16::word_in` meets its contract. The loop's invariant: the word is made of the first j bits.
 -- Assumes nothing.
 use mathlib.Core.Path.{_≡_, refl, sym, ap, _∙_, subst}
-use Prim.Native.Nat.{ℕ, _+_, _-_, _*_, _/_, _%_, _≤_, _<_}
+use Prim.Native.Nat.{_+_, _-_, _*_, _/_, _%_, _≤_, _<_}
 use native.Mathlib.Omega.{arith}
 use denote.Ref.{now}
 use lib.ListN.{getD}
-use borrow.Author.Needs.{needs}
 use Rattle.places.specs.Numbers.{number}
-use Rattle.places.specs.Sizes.{t16, lanes}
+use Rattle.places.specs.Sizes.{t16}
 use Rattle.places.proofs.Places.{size16, place-lt}
 use Rattle.plain.specs.Plain.{bit, bitOf, wordIn}
 use Rattle.plain.proofs.Bits.{bit-more, bit-fits, bit-small, bitOf-small, word-bit}
