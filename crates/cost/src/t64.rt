@@ -126,6 +126,12 @@ fn once(
         10 => runs::t64::decode(all, numbers, out).number(),
         11 => places::t64::transpose(all, out).number(),
         12 => places::t64::untranspose(all, out).number(),
+        27 => plain_pack(width, all, out),
+        28 => {
+            let n = words(width, all);
+            plain::t64::unpack(width, &all[..n], out).number()
+        }
+        29 => plain_single(width, all, turn, out),
         255 => 0,
         _ => UNKNOWN,
     }
@@ -153,6 +159,25 @@ fn unpack_single(width: usize, values: &[u64], turn: usize, out: &mut Block) -> 
             0
         }
         access::t64::Single::Refused(answer) => answer.number(),
+    }
+}
+
+// The same two calls of the plain engine.
+fn plain_pack(width: usize, values: &[u64], out: &mut [u64]) -> usize {
+    let n = words(width, out);
+    plain::t64::pack(width, values, &mut out[..n]).number()
+}
+
+fn plain_single(width: usize, values: &[u64], turn: usize, out: &mut Block) -> usize {
+    let n = words(width, values);
+    let place = turn % 1024;
+    let single = plain::t64::unpack_single(width, &values[..n], place);
+    match single {
+        plain::t64::Single::Value(x, n) => {
+            out[std::num::wrapping_add_usize(place, n) % 1024] = x;
+            0
+        }
+        plain::t64::Single::Refused(answer) => answer.number(),
     }
 }
 

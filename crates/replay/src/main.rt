@@ -119,7 +119,7 @@ fn case(head: Head) -> Step {
 fn whole(head: Head, reply: Reply) -> Reply {
     let op = head.op;
     match op {
-        2 => reply.with_index(head.index),
+        2 | 29 => reply.with_index(head.index),
         23 => reply.with_reference(head.reference),
         _ => reply.with_reference(head.reference).with_index(head.index),
     }

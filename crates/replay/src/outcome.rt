@@ -2,6 +2,7 @@
 use crate::Wide;
 use access::Afforded;
 use access::Listed;
+use places::Answer;
 use runs::Encoded;
 use stream::Head;
 use stream::Reply;
@@ -25,6 +26,11 @@ pub fn of_list(listed: Listed) -> Reply {
 // The reply of access by a list under a budget, which gives back how many lookups are answered, and their words as the index.
 pub fn of_front(afforded: Afforded) -> Reply {
     Reply::with_value(afforded.answer(), afforded.answered() as u64).with_index(afforded.words())
+}
+
+// The reply of the plain engine's single access, which gives back a value, and its count of words as the reference.
+pub fn of_plain(answer: Answer, value: u64, words: usize) -> Reply {
+    Reply::with_value(answer, value).with_reference(words as u64)
 }
 
 // What comes of the case with this head, from what its call gave back and left in the buffers c and d.

@@ -54,6 +54,36 @@ pub const CALLS: [Call; 16] = [
     Call::Budget,
 ];
 
+/// What a record of the stream asks for: a call of the main engine, or the same call of the plain
+/// one (document 02, Item 8), which is asked the same questions and must give the same answers.
+#[derive(Clone, Copy, PartialEq, Eq)]
+pub struct Op {
+    pub call: Call,
+    pub plain: bool,
+}
+
+/// How many numbers above its own a call's plain one has: 27, 28 and 29 are for 0, 1 and 2.
+const PLAIN: u8 = 27;
+
+/// All that a record can ask for, in the order of their numbers.
+pub fn ops() -> Vec<Op> {
+    let main = CALLS.map(|call| Op { call, plain: false });
+    let plain = [Call::Pack, Call::Unpack, Call::Single].map(|call| Op { call, plain: true });
+    [&main[..], &plain[..]].concat()
+}
+
+impl Op {
+    pub fn number(self) -> u8 {
+        self.call.number() + if self.plain { PLAIN } else { 0 }
+    }
+
+    /// Where it stands among all of them. The numbers have gaps, so it is not the number.
+    pub fn position(self) -> usize {
+        let found = ops().iter().position(|&op| op == self);
+        found.expect("every op stands among all ops")
+    }
+}
+
 /// What a buffer is to its call.
 #[derive(Clone, Copy, PartialEq, Eq, Debug)]
 pub enum Role {
@@ -96,12 +126,6 @@ impl Role {
 impl Call {
     pub fn number(self) -> u8 {
         self as u8
-    }
-
-    /// Where the call stands among all calls. The numbers have gaps, so it is not the number.
-    pub fn position(self) -> usize {
-        let found = CALLS.iter().position(|&call| call == self);
-        found.expect("every call stands among all calls")
     }
 
     /// The roles of the buffers a, b, c and d. The call reads a and b, and writes c and d.

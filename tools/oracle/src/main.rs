@@ -23,7 +23,7 @@ mod sweep;
 mod values;
 mod words;
 
-use call::{CALLS, Call};
+use call::{Op, ops};
 use sink::Sink;
 use std::process::exit;
 
@@ -35,7 +35,7 @@ usage: oracle sweep [SEED]      every call at every size and width, and the edge
                                 of words that a lookup reads against the crate's packing
 
 The first three write a case stream to standard output.
-  --ops LIST  only the calls with these numbers, as 0,1,2; all 16 without it
+  --ops LIST  only the calls with these numbers, as 0,1,2; all 19 without it
   --tally     say on standard error how many cases were written, for each call and in all
 
 Exit status: 0 done; 1 the stream could not be written, or a line of the self-check failed;
@@ -43,7 +43,7 @@ Exit status: 0 done; 1 the stream could not be written, or a line of the self-ch
 
 struct Wanted {
     words: Vec<String>,
-    calls: Vec<Call>,
+    ops: Vec<Op>,
     tally: bool,
 }
 
@@ -52,14 +52,14 @@ fn main() {
     let words: Vec<&str> = wanted.words.iter().map(String::as_str).collect();
     let mut sink = Sink::new();
     match words[..] {
-        ["sweep"] => sweep_all(&wanted.calls, sweep::SEED, &mut sink),
-        ["sweep", seed] => sweep_all(&wanted.calls, number(seed), &mut sink),
+        ["sweep"] => sweep_all(&wanted.ops, sweep::SEED, &mut sink),
+        ["sweep", seed] => sweep_all(&wanted.ops, number(seed), &mut sink),
         ["sample"] => wanted
-            .calls
+            .ops
             .iter()
-            .for_each(|&call| sample::sample(call, &mut sink)),
+            .for_each(|&op| sample::sample(op, &mut sink)),
         ["mixed", seed, count] => {
-            mixed::mixed(&wanted.calls, number(seed), number(count), &mut sink);
+            mixed::mixed(&wanted.ops, number(seed), number(count), &mut sink);
         }
         ["selfcheck"] => exit(if selfcheck::selfcheck() { 0 } else { 1 }),
         _ => bad_usage("a mode is wanted: sweep, mixed SEED COUNT, sample or selfcheck"),
@@ -70,16 +70,16 @@ fn main() {
     }
 }
 
-fn sweep_all(calls: &[Call], seed: u64, sink: &mut Sink) {
-    for &call in calls {
-        sweep::sweep(call, seed, sink);
+fn sweep_all(ops: &[Op], seed: u64, sink: &mut Sink) {
+    for &op in ops {
+        sweep::sweep(op, seed, sink);
     }
 }
 
 fn wanted(mut arguments: impl Iterator<Item = String>) -> Wanted {
     let mut wanted = Wanted {
         words: vec![],
-        calls: CALLS.to_vec(),
+        ops: ops(),
         tally: false,
     };
     while let Some(argument) = arguments.next() {
@@ -89,21 +89,22 @@ fn wanted(mut arguments: impl Iterator<Item = String>) -> Wanted {
                 exit(0)
             }
             "--tally" => wanted.tally = true,
-            "--ops" => wanted.calls = calls(&arguments.next().unwrap_or_default()),
+            "--ops" => wanted.ops = listed(&arguments.next().unwrap_or_default()),
             _ => wanted.words.push(argument),
         }
     }
     wanted
 }
 
-/// The calls of a list of numbers, as `0,1,2`.
-fn calls(list: &str) -> Vec<Call> {
-    let call = |text: &str| {
+/// The ops of a list of numbers, as `0,1,2`.
+fn listed(list: &str) -> Vec<Op> {
+    let op = |text: &str| {
         let number = text.trim().parse::<u8>().ok();
-        let found = CALLS.into_iter().find(|call| Some(call.number()) == number);
-        found.unwrap_or_else(|| bad_usage("--ops wants numbers of calls, 0 to 14 and 23, as 0,1,2"))
+        let found = ops().into_iter().find(|op| Some(op.number()) == number);
+        let why = "--ops wants numbers of calls, 0 to 14, 23 and 27 to 29, as 0,1,2";
+        found.unwrap_or_else(|| bad_usage(why))
     };
-    list.split(',').map(call).collect()
+    list.split(',').map(op).collect()
 }
 
 fn number(text: &str) -> u64 {

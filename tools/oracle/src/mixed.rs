@@ -1,16 +1,16 @@
 //! The mode `mixed`: random cases from a seed, the same seed giving the same bytes. Three in four
 //! are accepted; the others have one to three faults.
 
-use crate::call::Call;
+use crate::call::Op;
 use crate::questions::{Shape, accepted, faults, put, reasons};
 use crate::random::Random;
 use crate::sink::Sink;
 use crate::stream::Question;
 
-pub fn mixed(calls: &[Call], seed: u64, count: u64, sink: &mut Sink) {
+pub fn mixed(ops: &[Op], seed: u64, count: u64, sink: &mut Sink) {
     let mut random = Random::new(seed);
     for _ in 0..count {
-        let mut q = any_accepted(calls, &mut random);
+        let mut q = any_accepted(ops, &mut random, sink);
         if random.once_in(4) {
             put_some_faults(&mut q, &mut random);
         }
@@ -18,8 +18,8 @@ pub fn mixed(calls: &[Call], seed: u64, count: u64, sink: &mut Sink) {
     }
 }
 
-fn any_accepted(calls: &[Call], random: &mut Random) -> Question {
-    let call = random.pick(calls);
+fn any_accepted(ops: &[Op], random: &mut Random, sink: &mut Sink) -> Question {
+    let call = sink.set(random.pick(ops));
     let t = random.pick(call.sizes());
     let greatest = *call.widths(t).end();
     let any = random.below(greatest + 1);

@@ -5,7 +5,7 @@
 //! all of a call's reasons at once; the lists, dictionaries and runs at their edges. What is large
 //! stands at the small sizes: a case of u64 blocks has up to 24 kB, one of u8 blocks 3 kB.
 
-use crate::call::{BLOCK, Call, Role};
+use crate::call::{BLOCK, Call, Op, Role};
 use crate::questions::{CUT, Fault, PLAIN, Shape, accepted, budgets, faults, for_a_budget};
 use crate::questions::{places_in_two, put, reasons, with_budget};
 use crate::random::Random;
@@ -14,14 +14,15 @@ use crate::stream::{B, C, Question};
 use crate::values::{ENDS, Kind};
 use crate::words;
 
-pub fn sample(call: Call, sink: &mut Sink) {
+pub fn sample(op: Op, sink: &mut Sink) {
+    let call = sink.set(op);
     let mut random = Random::new(2000 + u64::from(call.number()));
+    if op.plain {
+        plain(call, &mut random, sink);
+        return;
+    }
     for &t in call.sizes() {
-        for width in widths(call, t) {
-            let (kind, end) = (kind(call, t), ENDS[width as usize % ENDS.len()]);
-            let shape = Shape { kind, end, ..PLAIN };
-            sink.put(&accepted(call, t, width, shape, &mut random));
-        }
+        edge_widths(call, t, &mut random, sink);
         edges(call, t, &mut random, sink);
         if is_small(call, t) {
             refusals(call, t, &mut random, sink);
@@ -29,6 +30,26 @@ pub fn sample(call: Call, sink: &mut Sink) {
         if t > 8 && !reasons(call).is_empty() {
             nothing_lent(call, t, &mut random, sink);
         }
+    }
+}
+
+/// Of a plain call, those questions of the main one for which there is room: the edge widths at 8
+/// bits and no buffer at all, and of single access what else it is asked there. The sweep has all.
+fn plain(call: Call, random: &mut Random, sink: &mut Sink) {
+    edge_widths(call, 8, random, sink);
+    nothing_lent(call, 8, random, sink);
+    if call == Call::Single {
+        edges(call, 8, random, sink);
+        refusals(call, 8, random, sink);
+    }
+}
+
+/// The accepted cases at the widths of the sample.
+fn edge_widths(call: Call, t: u32, random: &mut Random, sink: &mut Sink) {
+    for width in widths(call, t) {
+        let (kind, end) = (kind(call, t), ENDS[width as usize % ENDS.len()]);
+        let shape = Shape { kind, end, ..PLAIN };
+        sink.put(&accepted(call, t, width, shape, random));
     }
 }
 

@@ -1,7 +1,7 @@
 //! Where questions go: each is answered, by the rules or else by the crate, and the case is written
 //! to standard output. A tally is kept of what was written.
 
-use crate::call::{CALLS, Call};
+use crate::call::{Call, Op, ops};
 use crate::judge;
 use crate::rules;
 use crate::stream::Question;
@@ -10,8 +10,10 @@ use std::io::{self, BufWriter, Stdout, Write};
 pub struct Sink {
     out: BufWriter<Stdout>,
     bytes: u64,
-    /// For each call, how many cases were given each of the numbers 0 to 7.
-    tally: [[u64; 8]; CALLS.len()],
+    /// For each op, how many cases were given each of the numbers 0 to 7.
+    tally: Vec<[u64; 8]>,
+    /// Whether the questions go to the plain engine, and are written under its numbers.
+    plain: bool,
 }
 
 impl Sink {
@@ -19,15 +21,26 @@ impl Sink {
         Sink {
             out: BufWriter::new(io::stdout()),
             bytes: 0,
-            tally: [[0; 8]; CALLS.len()],
+            tally: vec![[0; 8]; ops().len()],
+            plain: false,
         }
+    }
+
+    /// The questions that follow are for this op's engine. Gives the call that they are to ask.
+    pub fn set(&mut self, op: Op) -> Call {
+        self.plain = op.plain;
+        op.call
     }
 
     /// Answers the question and writes the case.
     pub fn put(&mut self, q: &Question) {
         let answer = rules::refusal(q).unwrap_or_else(|| judge::answer(q));
-        self.tally[q.call.position()][answer.number as usize] += 1;
-        match q.write(&answer, &mut self.out) {
+        let op = Op {
+            call: q.call,
+            plain: self.plain,
+        };
+        self.tally[op.position()][answer.number as usize] += 1;
+        match q.write(op.number(), &answer, &mut self.out) {
             Ok(bytes) => self.bytes += bytes,
             Err(error) => stop(&error),
         }
@@ -40,16 +53,16 @@ impl Sink {
         }
     }
 
-    /// What was written, for each call and at the end in all, on standard error.
+    /// What was written, for each op and at the end in all, on standard error.
     pub fn print_tally(&self) {
-        for (call, counts) in CALLS.into_iter().zip(&self.tally) {
-            self.print_line(call, counts);
+        for (op, counts) in ops().into_iter().zip(&self.tally) {
+            self.print_line(op, counts);
         }
         let cases: u64 = self.tally.iter().flatten().sum();
         eprintln!("cases {cases} bytes {}", self.bytes);
     }
 
-    fn print_line(&self, call: Call, counts: &[u64; 8]) {
+    fn print_line(&self, op: Op, counts: &[u64; 8]) {
         if counts.iter().sum::<u64>() == 0 {
             return;
         }
@@ -58,8 +71,10 @@ impl Sink {
             .map(|number| format!(", refused with {number}: {}", counts[number]))
             .collect();
         eprintln!(
-            "op {} {call:?}: answered {}{}",
-            call.number(),
+            "op {} {}{:?}: answered {}{}",
+            op.number(),
+            if op.plain { "plain " } else { "" },
+            op.call,
             counts[0],
             refused.concat()
         );

@@ -74,9 +74,9 @@ impl Question {
         self.call.roles()[buffer].element_bits(self.t)
     }
 
-    /// Writes the record and says how many bytes it has.
-    pub fn write(&self, answer: &Answer, out: &mut impl Write) -> io::Result<u64> {
-        let mut record = self.head(answer);
+    /// Writes the record under this number and says how many bytes it has.
+    pub fn write(&self, number: u8, answer: &Answer, out: &mut impl Write) -> io::Result<u64> {
+        let mut record = self.head(number, answer);
         self.elements(A, &self.buffers[A], &mut record);
         self.elements(B, &self.buffers[B], &mut record);
         self.elements(C, &self.buffers[C], &mut record);
@@ -87,9 +87,9 @@ impl Question {
         Ok(record.len() as u64)
     }
 
-    fn head(&self, answer: &Answer) -> Vec<u8> {
+    fn head(&self, number: u8, answer: &Answer) -> Vec<u8> {
         let width = u16::try_from(self.width).expect("a width of the stream is a u16");
-        let mut head = vec![self.call.number(), self.t as u8];
+        let mut head = vec![number, self.t as u8];
         head.extend(width.to_le_bytes());
         head.extend([answer.number, 0, 0, 0]);
         for field in self.wide_fields(answer) {

@@ -2,9 +2,9 @@
 //! matter; every fault alone, and every set of two or more reasons at once.
 //!
 //! Each call draws from a seed of its own, which comes from the sweep's seed, so its cases are the
-//! same whichever other calls are asked for.
+//! same whichever other calls are asked for; and those of a plain call are those of the main one.
 
-use crate::call::{BLOCK, Call, Role};
+use crate::call::{BLOCK, Call, Op, Role};
 use crate::questions::{CUT, PLAIN, Shape, accepted, budgets, faults, for_a_budget, near};
 use crate::questions::{places_in_two, put, reasons, with_budget};
 use crate::random::Random;
@@ -16,7 +16,8 @@ use crate::words;
 /// The seed of a sweep that names none.
 pub const SEED: u64 = 1000;
 
-pub fn sweep(call: Call, seed: u64, sink: &mut Sink) {
+pub fn sweep(op: Op, seed: u64, sink: &mut Sink) {
+    let call = sink.set(op);
     let mut random = Random::new(seed.wrapping_add(u64::from(call.number())));
     for &t in call.sizes() {
         for width in call.widths(t) {

@@ -1,0 +1,4 @@
+pub mod Answers
+pub mod Bits
+pub mod Laid
+pub mod Words
