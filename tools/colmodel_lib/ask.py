@@ -1,6 +1,6 @@
 """A question for each call, made from what the call takes."""
-from . import build, drawers, writer
-from .stream import BLOCK_OUT, CHECK, ROW_LOOKUP, UNPACK_BLOCKS, WRITE, Question
+from . import build, drawers, trickle, writer
+from .stream import BLOCK_OUT, CHECK, ROW_LOOKUP, STARTED, TRICKLE, TRICKLE_FROM, UNPACK_BLOCKS, WRITE, Question
 
 
 def ask_check(name, data):
@@ -50,3 +50,30 @@ def ask_thrown(dice, op, name, t, width, blocks, values, packed):
 def ask_fitting(dice, op, name, t, width, blocks):
     """The same, with buffers as long as the call asks for."""
     return ask_thrown(dice, op, name, t, width, blocks, *drawers.lengths(t, width, blocks))
+
+
+def chunk_words(lengths):
+    """The lengths of chunks for a name: all where they are few, else the first ones and how many there are."""
+    shown = " ".join(map(str, lengths[:6]))
+    return f"chunks {shown or 'none'}" if len(lengths) <= 6 else f"{len(lengths)} chunks {shown} ..."
+
+
+def ask_trickle(dice, name, width, lengths, room=1024):
+    """A body that trickles in, in chunks of these lengths. Its bytes are thrown, and so is what the output holds."""
+    said = f"{name}, width {width}, {chunk_words(lengths)}, into {room}"
+    fed = dice.bytes(sum(lengths))
+    return Question(TRICKLE, said, fed, build.words(lengths), dice.bytes(8 * room), width=width)
+
+
+def ask_trickle_from(dice, name, width, held, lengths, room=1024):
+    """The same from a state made by hand, with so many bytes held. The whole of its room is thrown, so that what stands
+    behind the bytes held is no zeros."""
+    said = f"{name}, width {width}, {held} held, {chunk_words(lengths)}, into {room}"
+    given = dice.bytes(trickle.ROOM + sum(lengths))
+    return Question(TRICKLE_FROM, said, given, build.words(lengths), dice.bytes(8 * room), index=held, width=width)
+
+
+def ask_trickle_started(dice, name, width, lengths, room=1024):
+    """The same from the state that the start gave, refused or not."""
+    question = ask_trickle(dice, f"{name}, a state from the start", width, lengths, room)
+    return question._replace(op=TRICKLE_FROM, reference=STARTED)

@@ -1,14 +1,15 @@
 """Cases that nobody thought of: files of random blocks, some of them changed by accident, and random calls.
 
-Two cases of ten are writes, which mixed_writes.py makes, one reads a file that the model wrote, and one is a drawer,
-which mixed_drawers.py makes.
+Two cases of ten are writes, which mixed_writes.py makes, one reads a file that the model wrote, one is a drawer, which
+mixed_drawers.py makes, and one is a trickle, from mixed_trickles.py. Where the stream is not to have a call, one of the
+reader's calls takes its place.
 
 Each case has dice of its own, made from the seed and the case's number. So case 17 of a seed is the same however many
 cases are written.
 """
-from . import build, files, mixed_drawers, mixed_writes, writer
+from . import build, files, mixed_drawers, mixed_trickles, mixed_writes, writer
 from .build import Dice, any_block, any_runs, column_file, with_index
-from .stream import BLOCK_OUT, CHECK, ROW_LOOKUP, Question
+from .stream import BLOCK_OUT, CHECK, DRAWERS, ROW_LOOKUP, TRICKLES, WRITE, Question
 
 EDGES = (0, 1, 2, 3, 63, 64, 65, 255, 256, 257, 1024, 2048, 65535, 2**31, 2**32 - 1, 2**63, 2**64 - 1)
 FIELDS = {"kind": 2**8, "width": 2**8, "zero": 2**16, "length": 2**32, "reference": 2**64}
@@ -135,12 +136,21 @@ def written_file(dice):
     return writer.file_of(values), len(values) // 1024
 
 
-def case(seed, i):
+# Of ten cases, by the number that is thrown: the calls that one can be of, and who makes it.
+OTHERS = {
+    0: ((WRITE,), mixed_writes.case),
+    1: ((WRITE,), mixed_writes.case),
+    3: (DRAWERS, mixed_drawers.case),
+    4: (TRICKLES, mixed_trickles.case),
+}
+
+
+def case(seed, i, ops):
+    """A case of one of these calls."""
     sort = Dice("mixed sort", seed, i).below(10)
-    if sort < 2:
-        return mixed_writes.case(seed, i)
-    if sort == 3:
-        return mixed_drawers.case(seed, i)
+    calls, made_by = OTHERS.get(sort, ((), None))
+    if calls and set(calls) <= set(ops):
+        return made_by(seed, i)
     return reading(seed, i, written_file if sort == 2 else some_file)
 
 
@@ -158,5 +168,5 @@ def reading(seed, i, file_from):
     return Question(op, name, data, c=dice.bytes(8 * room), index=some_index(dice, blocks))
 
 
-def mixed(seed, count):
-    return (case(seed, i) for i in range(count))
+def mixed(seed, count, ops):
+    return (case(seed, i, ops) for i in range(count))

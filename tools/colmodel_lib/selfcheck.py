@@ -1,25 +1,28 @@
 """Holds the model and the cases to what can be said of them without running any of the port.
 
 Each check is a function that gives the things that are not so, in words. Numbers here are worked out by hand from
-documents 01 and 02. What is said of writes stands in check_writes.py, and what is said of drawers in check_drawers.py.
+documents 01 and 02. What is said of writes stands in check_writes.py, what is said of drawers in check_drawers.py, and
+what is said of trickles in check_trickles.py.
 """
 import io
 import struct
 
-from . import build, check_drawers, check_writes, files, layout, mixed, mixed_writes, sweep
+from . import build, check_drawers, check_trickles, check_writes, files, layout, mixed, mixed_writes, sweep
 from .build import Dice, column_file
 from .check_writes import unless
 from .files import DIFFERENCES, FRAME, PACKED, RUNS
-from .stream import BLOCK_OUT, CHECK, DRAWERS, FOR_PACK_BLOCKS, NO_COUNT, ROW_LOOKUP, UNPACK_BLOCKS, WRITE
-from .stream import Outcome, Question, answered, cases, record, replay
+from .stream import BLOCK_OUT, CALLS, CHECK, DRAWERS, FOR_PACK_BLOCKS, NO_COUNT, ROW_LOOKUP, TRICKLE, TRICKLE_FROM
+from .stream import TRICKLES, UNPACK_BLOCKS, WRITE, Outcome, Question, answered, cases, record, replay
 
-GIVEN = {  # The numbers that each call can give, from Items 1, 3 and 7.
+GIVEN = {  # The numbers that each call can give, from Items 1, 3, 7 and 10.
     CHECK: {0, 8, 9, 10, 11, 13},
     BLOCK_OUT: {0, 2, 8, 9, 10, 11, 12, 13},
     ROW_LOOKUP: {0, 8, 9, 10, 11, 12, 13},
     WRITE: {0, 2, 14},
     UNPACK_BLOCKS: {0, 1, 2, 3},
     FOR_PACK_BLOCKS: {0, 1, 2, 3},
+    TRICKLE: {0, 1, 2, 16},
+    TRICKLE_FROM: {0, 2, 16},
 }
 COUNTS = {  # The counts of words that a row lookup can give in each kind of block, from Item 5.
     PACKED: {0, 1, 2},
@@ -233,10 +236,13 @@ def what_is_reached(name, questions, by_rows=False):
             yield from unless(outcome.c != question.c, f"{name}, {question.name}: the output would not change")
         if outcome.number:
             yield from unless(outcome.c == question.c, f"{name}, {question.name}: a refusal changes the output")
-            yield from unless(outcome.value == 0, f"{name}, {question.name}: a refusal gives a value")
+            no_value = outcome.value == 0 or question.op in TRICKLES
+            yield from unless(no_value, f"{name}, {question.name}: a refusal gives a value")
         if outcome.number or question.op != ROW_LOOKUP:
             none = NO_COUNT if question.op == ROW_LOOKUP else 0
             yield from unless(outcome.reference == none, f"{name}, {question.name}: the reference is another")
+    if name == "sample":
+        reached[TRICKLE_FROM].add(16)  # This takes a block, and the sample leaves it to the other call.
     yield from unless(reached == GIVEN, f"{name}: the numbers given are {reached}")
     yield from unless(counts == COUNTS, f"{name}: the counts of words by kind are {counts}")
     yield from unless(written == {PACKED, FRAME, DIFFERENCES}, f"{name}: the kinds written are {written}")
@@ -271,7 +277,7 @@ def spoiled(questions):
         if question.op == ROW_LOOKUP:
             yield question, outcome._replace(value=(outcome.value + 2**63) % 2**64)
             yield from ((question, outcome._replace(reference=count)) for count in wrong_counts(outcome.reference))
-        if question.op == WRITE or question.op in DRAWERS:
+        if question.op == WRITE or question.op in DRAWERS + TRICKLES:
             yield question, outcome._replace(value=outcome.value + 1)
         for at in bytes_to_spoil(question, outcome):
             c = bytearray(outcome.c)
@@ -311,6 +317,16 @@ def streams(questions):
     question = Question(FOR_PACK_BLOCKS, "a drawer", taken, c=before, index=2, t=16, width=5, reference=40000)
     same = record(question, answered(question)) == head + taken + before + before
     yield from unless(same, "a record of a drawer has another form")
+    # A state made by hand of width 2 with 250 bytes held takes 6 of 9 bytes, and the output is too short.
+    head = struct.pack("<BBHB3xQQQQ4I", TRICKLE_FROM, 64, 2, 2, 0, 6, 0, 250, 8201, 3, 1, 0)
+    taken, lengths = bytes(8192) + b"abcdefghi", struct.pack("<3Q", 4, 0, 5)
+    question = Question(TRICKLE_FROM, "a state", taken, lengths, b"\xa5" * 8, 250, width=2)
+    same = record(question, answered(question)) == head + taken + lengths + b"\xa5" * 16
+    yield from unless(same, "a record of a trickle has another form")
+    for other in ({"b": lengths[:16]}, {"a": taken[:8191], "b": b""}, {"reference": 2}):
+        wrong = record(question._replace(**other), Outcome(0, 0, question.c))
+        said = replay(io.BytesIO(wrong))
+        yield from unless(said == ["bad stream at 0"], f"the replay of a trickle that cannot be says {said}")
     yield from unless(len(whole) < 1_000_000, f"the sample has {len(whole)} bytes, and is to be below a megabyte")
 
 
@@ -318,7 +334,7 @@ def failures():
     """All that is not so."""
     swept = list(sweep.sweep(1))
     sample = list(sweep.sample())
-    some = list(mixed.mixed(1, 800))
+    some = list(mixed.mixed(1, 800, CALLS))
     yield from worked_files()
     yield from packed_cases()
     yield from frame_cases()
@@ -333,5 +349,6 @@ def failures():
     yield from what_is_reached("mixed", some)
     yield from check_writes.failures(swept, sample)
     yield from check_drawers.failures(swept, sample, some)
+    yield from check_trickles.failures(swept, sample, some)
     yield from check_writes.reads_back(check_writes.all_written(mixed_writes.writes(1, 100)))
     yield from streams(sample)

@@ -1,10 +1,11 @@
 """Shows a column file to a person: its contents as far as they are there, and the answer with what is wrong.
 
 Of a write it shows the three candidates of each block, and the file that the model writes. Of a drawer it shows the
-blocks that the model gives.
+blocks that the model gives, and of a trickle what every chunk adds.
 """
-from . import drawers, files, writer
-from .stream import DRAWERS, FOR_PACK_BLOCKS, NO_COUNT, ROW_LOOKUP, UNPACK_BLOCKS, WRITE
+from . import drawers, files, trickle, writer
+from .stream import BY_HAND, DRAWERS, FOR_PACK_BLOCKS, NO_COUNT, ROW_LOOKUP, TRICKLE, TRICKLE_FROM, TRICKLES
+from .stream import UNPACK_BLOCKS, WRITE, fed_in
 
 
 def plural(n, word):
@@ -154,10 +155,50 @@ def drawer_difference(question, expected, answered):
             return
 
 
+def state_of(question):
+    """The state that a trickle begins with, and where it comes from, in words."""
+    answer, state = trickle.start(question.width)
+    if question.op == TRICKLE or question.reference != BY_HAND:
+        return state, "of a refused start" if answer.number else "of the start"
+    state = trickle.handed_in(question.width, question.index, question.a[: trickle.ROOM])
+    too_much = (question.width, question.index) != (state.width, len(state.held))
+    return state, "made by hand, which counts as that of width 0" if too_much else "made by hand"
+
+
+def trickle_lines(question):
+    """What the model does with a trickle: the state, how many bytes it takes of each of the first chunks, and the
+    answer."""
+    if question.op == TRICKLE and trickle.start(question.width)[0].number:
+        yield answer_line(trickle.start(question.width)[0])
+        return
+    state, whence = state_of(question)
+    yield f"state {whence}: width {state.width}, {plural(len(state.held), 'byte')} held"
+    for i, chunk in enumerate(trickle.chunks_of(fed_in(question), files.words_of(question.b))):
+        taken, state = trickle.feed(state, chunk)
+        if i < 20:
+            yield f"chunk {i} of {plural(len(chunk), 'byte')}: {taken} taken, {len(state.held)} held"
+        elif i == 20:
+            yield "..."
+    answer, values = trickle.ask(state, len(question.c) // 8)
+    if values:
+        yield f"values: first {' '.join(map(str, values[:4]))} ..."
+    yield answer_line(answer)
+
+
+def trickle_words(question):
+    """What goes into a trickle."""
+    by_hand = question.op == TRICKLE_FROM and question.reference == BY_HAND
+    state = f"{plural(question.index, 'byte')} held, " if by_hand else ""
+    fed = f"{plural(len(fed_in(question)), 'byte')} in {plural(len(question.b) // 8, 'chunk')}"
+    return f"width {question.width}, {state}{fed}, output of {plural(len(question.c) // 8, 'place')}"
+
+
 def given_words(question):
     """What goes into a call."""
     if question.op == WRITE:
         return f"{plural(len(question.a) // 8, 'number')}, output of {plural(len(question.c), 'byte')}"
+    if question.op in TRICKLES:
+        return trickle_words(question)
     if question.op not in DRAWERS:
         return f"index {question.index}, output of {plural(len(question.c) // 8, 'place')}"
     framed = f", reference {question.reference}" if question.op == FOR_PACK_BLOCKS else ""
@@ -168,7 +209,7 @@ def given_words(question):
 
 
 def case_lines(i, question, expected, answered):
-    """A case of a stream, what is expected of it, what the model gives, and its file or its blocks."""
+    """A case of a stream, what is expected of it, what the model gives, and its file, its blocks or its chunks."""
     yield f"case {i}: call {question.op}, {given_words(question)}"
     yield f"expected: {outcome_words(question, expected)}"
     if answered == expected:
@@ -179,6 +220,8 @@ def case_lines(i, question, expected, answered):
     if question.op in DRAWERS:
         yield from drawer_difference(question, expected, answered)
         yield from drawer_lines(question, answered)
+    elif question.op in TRICKLES:
+        yield from trickle_lines(question)
     elif question.op == WRITE:
         yield from write_lines(files.words_of(question.a), len(question.c))
     else:

@@ -3,9 +3,10 @@ whose order can be seen.
 
 Each section is a function that gives questions. What the answer is comes from the model and is never written here; the
 one exception is the order of the refusals, which stands again in STEPS, so that the selfcheck can hold the model to it.
-The cases of Item 3 come after these, from sweep_writes.py, and then those of Item 7, from sweep_drawers.py.
+The cases of Item 3 come after these, from sweep_writes.py, then those of Item 7, from sweep_drawers.py, and those of
+Item 10, from sweep_trickles.py.
 """
-from . import build, files, layout, sweep_drawers, sweep_writes
+from . import build, files, layout, sweep_drawers, sweep_trickles, sweep_writes
 from .ask import ask_all, ask_block, ask_check, ask_row
 from .build import Block, Dice, any_block, any_runs, column_file, frame, packed, runs, with_index
 from .files import DIFFERENCES, FRAME, PACKED, RUNS
@@ -441,6 +442,7 @@ SECTIONS = (
     faults_together,
     *sweep_writes.SECTIONS,
     *sweep_drawers.SECTIONS,
+    *sweep_trickles.SECTIONS,
 )
 
 
@@ -587,3 +589,4 @@ def sample():
     yield from small_counts(Dice("sample of counts"))
     yield from sweep_writes.small_writes(Dice("sample of writes"))
     yield from sweep_drawers.small_drawers(Dice("sample of drawers"))
+    yield from sweep_trickles.small_trickles(Dice("sample of trickles"))
