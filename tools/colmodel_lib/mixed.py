@@ -10,9 +10,12 @@ cases are written.
 from . import build, files, mixed_drawers, mixed_trickles, mixed_writes, writer
 from .build import Dice, any_block, any_runs, column_file, with_index
 from .stream import BLOCK_OUT, CHECK, DRAWERS, ROW_LOOKUP, TRICKLES, WRITE, Question
+from .switches import EDITIONS
+from .sweep_reads import has_runs
 
 EDGES = (0, 1, 2, 3, 63, 64, 65, 255, 256, 257, 1024, 2048, 65535, 2**31, 2**32 - 1, 2**63, 2**64 - 1)
 FIELDS = {"kind": 2**8, "width": 2**8, "zero": 2**16, "length": 2**32, "reference": 2**64}
+FIELDS_2 = {**FIELDS, "smallest": 2**64, "largest": 2**64}
 
 
 def some_width(dice):
@@ -42,25 +45,42 @@ def some_body(dice, width):
     return dice.bytes(128 * width)
 
 
-def some_block(dice):
+def some_block(dice, edition=1):
+    """A block of any kind; where kind 3 is not read, few have it."""
     kind = dice.below(4)
+    if kind == files.RUNS and not has_runs(edition) and dice.below(20):
+        kind = files.FRAME
     if kind == files.RUNS:
         return any_runs(dice, dice.pick((1, 2, 3, 7, 1 + dice.below(40), 1 + dice.below(1024), 1024)))
     width = some_width(dice)
     return any_block(dice, kind, width, some_body(dice, width))
 
 
-def some_blocks(dice):
-    return [some_block(dice) for _ in range(dice.pick((0, 1, 1, 1, 1, 2, 2, 3, 4)))]
+def some_blocks(dice, edition=1):
+    """A few blocks. In edition 2 they have their range before anything happens to them."""
+    blocks = [some_block(dice, edition) for _ in range(dice.pick((0, 1, 1, 1, 1, 2, 2, 3, 4)))]
+    return blocks if edition == 1 else [build.ranged(block) for block in blocks]
 
 
 # Accidents. Each takes the blocks or the bytes of a good file, and may leave it good.
 
 
 def other_field(dice, blocks):
-    i, field = dice.below(len(blocks)), dice.pick(sorted(FIELDS))
-    value = dice.pick((*EDGES, dice.number(), getattr(blocks[i].entry, field) + 1)) % FIELDS[field]
+    i = dice.below(len(blocks))
+    fields = FIELDS if blocks[i].entry.smallest is None else FIELDS_2
+    field = dice.pick(sorted(fields))
+    value = dice.pick((*EDGES, dice.number(), getattr(blocks[i].entry, field) + 1)) % fields[field]
     blocks[i] = blocks[i].but(**{field: value})
+
+
+def other_range(dice, blocks):
+    """In edition 2 a smallest or a largest that is off: by one, or as far as can be, or to the other of the two."""
+    i = dice.below(len(blocks))
+    smallest, largest = blocks[i].entry[-2:]
+    if smallest is not None:
+        near = {"smallest": (smallest - 1, smallest + 1, 0, largest), "largest": (largest + 1, largest - 1, -1, smallest)}
+        field = dice.pick(sorted(near))
+        blocks[i] = blocks[i].but(**{field: dice.pick(near[field]) % 2**64})
 
 
 def other_index(dice, blocks):
@@ -100,25 +120,27 @@ def other_head(dice, data):
     if len(data) >= files.HEAD.size:
         edition, count = files.HEAD.unpack_from(data)
         if dice.below(2):
-            edition = dice.pick((0, 2, 257, dice.below(65536)))
+            edition = dice.pick((0, 2, 257, dice.below(65536)) if edition == 1 else (1, 3, 258, dice.below(65536)))
         else:
             count = dice.pick((count + 1, 257, dice.below(600)))
         files.HEAD.pack_into(data, 0, edition, count % 65536)
 
 
-TO_BLOCKS = (other_field, other_field, other_index, other_index, swapped_entries)
+TO_BLOCKS = {1: (other_field, other_field, other_index, other_index, swapped_entries)}
+TO_BLOCKS[2] = (*TO_BLOCKS[1], other_range, other_range, other_range)
 TO_BYTES = (other_byte, other_byte, cut_off, added, other_head)
 
 
-def some_file(dice):
+def some_file(dice, editions=EDITIONS):
     """A file and the number of its blocks; not quite half of the files have an accident, and some of these two."""
-    blocks = some_blocks(dice)
+    edition = dice.pick(editions) if len(editions) > 1 else editions[0]
+    blocks = some_blocks(dice, edition)
     accidents = dice.pick((0, 0, 0, 0, 0, 1, 1, 1, 2))
     kinds = [dice.below(2) for _ in range(accidents)]
     for _ in range(sum(kinds)):
         if blocks:
-            dice.pick(TO_BLOCKS)(dice, blocks)
-    data = bytearray(column_file(blocks))
+            dice.pick(TO_BLOCKS[edition])(dice, blocks)
+    data = bytearray(column_file(blocks, edition))
     for _ in range(accidents - sum(kinds)):
         dice.pick(TO_BYTES)(dice, data)
     return bytes(data), len(blocks)

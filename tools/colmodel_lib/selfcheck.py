@@ -8,22 +8,29 @@ import io
 import struct
 
 from . import build, check_drawers, check_trickles, check_writes, files, layout, mixed, mixed_writes, sweep
+from . import sweep_reads
+from .ask import ask_row
 from .build import Dice, column_file
 from .check_writes import unless
 from .files import DIFFERENCES, FRAME, PACKED, RUNS
+from .sweep_reads import ENTRY_WRONG, RANGE_WRONG, RUNS_WRONG, SEVENS, SEVENS_2, WAYS
+from .switches import EDITION_WRITTEN, EDITIONS, RUNS_IN_EDITION_2
 from .stream import BLOCK_OUT, CALLS, CHECK, DRAWERS, FOR_PACK_BLOCKS, NO_COUNT, ROW_LOOKUP, TRICKLE, TRICKLE_FROM
 from .stream import TRICKLES, UNPACK_BLOCKS, WRITE, Outcome, Question, answered, cases, record, replay
 
-GIVEN = {  # The numbers that each call can give, from Items 1, 3, 7 and 10.
-    CHECK: {0, 8, 9, 10, 11, 13},
-    BLOCK_OUT: {0, 2, 8, 9, 10, 11, 12, 13},
-    ROW_LOOKUP: {0, 8, 9, 10, 11, 12, 13},
+OF_EDITION_2 = {15} if 2 in EDITIONS else set()
+GIVEN = {  # The numbers that each call can give, from Items 1, 3, 7, 9 and 10.
+    CHECK: {0, 8, 9, 10, 11, 13} | OF_EDITION_2,
+    BLOCK_OUT: {0, 2, 8, 9, 10, 11, 12, 13} | OF_EDITION_2,
+    ROW_LOOKUP: {0, 8, 9, 10, 11, 12, 13} | OF_EDITION_2,
     WRITE: {0, 2, 14},
     UNPACK_BLOCKS: {0, 1, 2, 3},
     FOR_PACK_BLOCKS: {0, 1, 2, 3},
     TRICKLE: {0, 1, 2, 16},
     TRICKLE_FROM: {0, 2, 16},
 }
+# Numbers that the sample may leave to other calls and to the sweep, since there a block takes much room.
+LEFT_TO_OTHERS = {TRICKLE_FROM: {16}, BLOCK_OUT: {8, 9, 11} if 2 in EDITIONS else set()}
 COUNTS = {  # The counts of words that a row lookup can give in each kind of block, from Item 5.
     PACKED: {0, 1, 2},
     FRAME: {0, 1, 2},
@@ -42,14 +49,14 @@ def block_of(block):
 def worked_files():
     """Item 1's two files: what they hold, and that building them gives the same bytes."""
     sevens = build.frame(0, b"", 7)
-    yield from unless(column_file([]) == sweep.NO_BLOCKS, "the file of no blocks is not built as Item 1 has it")
-    yield from unless(column_file([sevens]) == sweep.SEVENS, "the file of sevens is not built as Item 1 has it")
-    yield from unless(files.check(sweep.NO_BLOCKS) == files.ACCEPTED, "the file of no blocks is not accepted")
-    yield from unless(files.row_lookup(sweep.NO_BLOCKS, 0)[0][:2] == (12, 0), "row 0 of no blocks is not 12")
-    yield from unless(files.check(sweep.SEVENS) == files.ACCEPTED, "the file of sevens is not accepted")
+    yield from unless(column_file([]) == sweep_reads.NO_BLOCKS, "the file of no blocks is not built as Item 1 has it")
+    yield from unless(column_file([sevens]) == SEVENS, "the file of sevens is not built as Item 1 has it")
+    yield from unless(files.check(sweep_reads.NO_BLOCKS) == files.ACCEPTED, "the file of no blocks is not accepted")
+    yield from unless(files.row_lookup(sweep_reads.NO_BLOCKS, 0)[0][:2] == (12, 0), "row 0 of no blocks is not 12")
+    yield from unless(files.check(SEVENS) == files.ACCEPTED, "the file of sevens is not accepted")
     yield from unless(block_of(sevens) == [7] * 1024, "the file of sevens has other values")
-    yield from unless(files.row_lookup(sweep.SEVENS, 1023)[1:] == (7, 0), "row 1023 of the sevens is another")
-    yield from unless(files.row_lookup(sweep.SEVENS, 1024)[0][:2] == (12, 0), "row 1024 of the sevens is not 12")
+    yield from unless(files.row_lookup(SEVENS, 1023)[1:] == (7, 0), "row 1023 of the sevens is another")
+    yield from unless(files.row_lookup(SEVENS, 1024)[0][:2] == (12, 0), "row 1024 of the sevens is not 12")
 
 
 def lane_body(width, lane, number):
@@ -173,37 +180,41 @@ def counts_by_kind():
         ("a row that is not there", build.packed(3, body), 1024, no_count),
         ("a bad entry", build.packed(3, body).but(zero=1), 672, no_count),
     ):
-        found = answered(sweep.ask_row(name, column_file([block]), row)).reference
+        found = answered(ask_row(name, column_file([block]), row)).reference
         yield from unless(found == expected, f"{name}, row {row}: the count is {found}, and not {expected}")
 
 
 def expected_of(steps, way):
-    """The number and the place that the first of these steps gives, from Item 1's text."""
-    place = {sweep.ENTRY_WRONG: sweep.WAYS[way]["entry"], sweep.RUNS_WRONG: sweep.WAYS[way]["block"]}
+    """The number and the place that the first of these steps gives, from the text of Items 1 and 9."""
+    named = {ENTRY_WRONG: "entry", RUNS_WRONG: "block", RANGE_WRONG: "range"}
+    place = {step: WAYS[way].get(name) for step, name in named.items()}
     return (int(steps[0].split()[0]), place.get(steps[0], 0)) if steps else (0, 0)
 
 
 def every_set_of_steps():
     for op in OF_READER:
-        for way in range(len(sweep.WAYS)):
-            yield from ((op, way, steps) for steps in sweep.sets_of_steps(op, way))
+        for way in sweep_reads.ways():
+            sets = sweep_reads.sets_of_steps(sweep_reads.steps_of(op), way)
+            yield from ((op, way, steps) for steps in sets)
 
 
 def order_of_refusals(asked):
     """Where several steps fail, the first in Item 1's order answers; and without that one, the next."""
     pairs = set()
     for op, way, steps in every_set_of_steps():
-        question = sweep.faulty_question(op, steps, way)
+        question = sweep_reads.faulty_question(op, steps, way)
         name = f"call {op}: {question.name}"
         yield from unless(question in asked, f"{name}: the sweep does not ask this")
         got = answered(question)[:2]
         yield from unless(got == expected_of(steps, way), f"{name}: the model gives {got}")
-        rest = answered(sweep.faulty_question(op, steps[1:], way))[:2]
+        rest = answered(sweep_reads.faulty_question(op, steps[1:], way))[:2]
         yield from unless(rest == expected_of(steps[1:], way), f"{name}: without the first fault it is {rest}")
         if len(steps) == 2:
             pairs.add(tuple(int(step.split()[0]) for step in steps))
     wanted = {(2, 8), (2, 9), (2, 10), (2, 11), (2, 13), (2, 12), (8, 9), (9, 8), (8, 10), (10, 8), (8, 13), (8, 12)}
     wanted |= {(9, 10), (9, 11), (9, 13), (9, 12), (10, 11), (10, 13), (10, 12), (11, 13), (11, 12), (13, 12)}
+    if 2 in EDITIONS:
+        wanted |= {(2, 15), (8, 15), (9, 15), (10, 15), (11, 15), (15, 12)} | ({(13, 15)} if RUNS_IN_EDITION_2 else set())
     yield from unless(pairs == wanted, f"the pairs of refusals are {sorted(pairs)}")
 
 
@@ -217,7 +228,7 @@ def read_at(question):
 def what_is_reached(name, questions, by_rows=False):
     """Every number that a call can give, and no other; every kind is read and written; every count that a kind can
     give is given; outputs change and stay. Blocks come out at the widths at the edges; with by_rows, kinds 0 and 1 may
-    have a row lookup there in the place of a block out."""
+    have a row lookup there in the place of a block out, and from Item 9 on every kind may."""
     reached = {op: set() for op in GIVEN}
     kinds, written, counts = set(), set(), {kind: set() for kind in COUNTS}
     for question in questions:
@@ -229,7 +240,7 @@ def what_is_reached(name, questions, by_rows=False):
         if question.op == ROW_LOOKUP and not outcome.number:
             kind, _ = read_at(question)
             counts[kind].add(outcome.reference)
-            if by_rows and kind in (PACKED, FRAME):
+            if by_rows and (kind in (PACKED, FRAME) or 2 in EDITIONS):
                 kinds.add(read_at(question))
         if question.op == WRITE and not outcome.number:
             written |= {entry.kind for entry in files.entries_of(outcome.c)}
@@ -241,12 +252,12 @@ def what_is_reached(name, questions, by_rows=False):
         if outcome.number or question.op != ROW_LOOKUP:
             none = NO_COUNT if question.op == ROW_LOOKUP else 0
             yield from unless(outcome.reference == none, f"{name}, {question.name}: the reference is another")
-    if name == "sample":
-        reached[TRICKLE_FROM].add(16)  # This takes a block, and the sample leaves it to the other call.
+    for op in LEFT_TO_OTHERS if name == "sample" else ():
+        reached[op] |= LEFT_TO_OTHERS[op]
     yield from unless(reached == GIVEN, f"{name}: the numbers given are {reached}")
     yield from unless(counts == COUNTS, f"{name}: the counts of words by kind are {counts}")
     yield from unless(written == {PACKED, FRAME, DIFFERENCES}, f"{name}: the kinds written are {written}")
-    edges = {(kind, width) for kind in (PACKED, FRAME, DIFFERENCES) for width in sweep.EDGE_WIDTHS}
+    edges = {(kind, width) for kind in (PACKED, FRAME, DIFFERENCES) for width in sweep_reads.EDGE_WIDTHS}
     edges |= {(RUNS, 2048 + 8), (RUNS, 2048 + 8 * 1024)}
     yield from unless(edges <= kinds, f"{name}: no block out of kind and width {sorted(edges - kinds)}")
 
@@ -256,7 +267,7 @@ def bytes_to_spoil(question, outcome):
     the first of the bodies, the file's last, and the one behind it. Of a drawer that is done the ends of each block."""
     at = {0, len(outcome.c) - 1}
     if question.op == WRITE and not outcome.number:
-        at |= {2, 4, 5, 6, 8, 12, 20, outcome.value - 1, outcome.value}
+        at |= {2, 4, 5, 6, 8, 12, 20, outcome.value - 1, outcome.value} | ({28, 36} if EDITION_WRITTEN == 2 else set())
     if question.op in DRAWERS and not outcome.number and question.index:
         size = len(outcome.c) // question.index
         at |= {size * block + end for block in range(question.index) for end in (-1, 0)}
@@ -299,15 +310,16 @@ def streams(questions):
     yield from unless(said[:2] == all_differ, f"the replay of spoiled cases says {said}")
     said = replay(io.BytesIO(whole[:-1]))
     yield from unless(said == [f"bad stream at {len(back) - 1}"], f"the replay of a cut stream says {said}")
-    head = struct.pack("<BBHB3xQQQQ4I", ROW_LOOKUP, 64, 0, 0, 0, 7, 0, 1023, len(sweep.SEVENS), 0, 0, 0)
-    question = sweep.ask_row("the sevens", sweep.SEVENS, 1023)
-    yield from unless(record(question, Outcome(0, 0, b"", 7)) == head + sweep.SEVENS, "a record has another form")
-    head = struct.pack("<BBHB3xQQQQ4I", ROW_LOOKUP, 64, 0, 12, 0, 0, 2**64 - 1, 1024, len(sweep.SEVENS), 0, 0, 0)
-    question = sweep.ask_row("the sevens", sweep.SEVENS, 1024)
-    same = record(question, answered(question)) == head + sweep.SEVENS
+    head = struct.pack("<BBHB3xQQQQ4I", ROW_LOOKUP, 64, 0, 0, 0, 7, 0, 1023, len(SEVENS), 0, 0, 0)
+    question = ask_row("the sevens", SEVENS, 1023)
+    yield from unless(record(question, Outcome(0, 0, b"", 7)) == head + SEVENS, "a record has another form")
+    head = struct.pack("<BBHB3xQQQQ4I", ROW_LOOKUP, 64, 0, 12, 0, 0, 2**64 - 1, 1024, len(SEVENS), 0, 0, 0)
+    question = ask_row("the sevens", SEVENS, 1024)
+    same = record(question, answered(question)) == head + SEVENS
     yield from unless(same, "a record of a refused row lookup has another form")
-    head = struct.pack("<BBHB3xQQQQ4I", WRITE, 64, 0, 0, 0, 20, 0, 0, 1024, 0, 23, 0)
-    numbers, before, after = struct.pack("<1024Q", *[7] * 1024), b"\xa5" * 23, sweep.SEVENS + b"\xa5" * 3
+    length, written = {1: (20, SEVENS), 2: (36, SEVENS_2)}[EDITION_WRITTEN]
+    head = struct.pack("<BBHB3xQQQQ4I", WRITE, 64, 0, 0, 0, length, 0, 0, 1024, 0, 39, 0)
+    numbers, before, after = struct.pack("<1024Q", *[7] * 1024), b"\xa5" * 39, written.ljust(39, b"\xa5")
     question = Question(WRITE, "the sevens", numbers, c=before)
     same = record(question, answered(question)) == head + numbers + before + after
     yield from unless(same, "a record of a write has another form")
@@ -334,7 +346,7 @@ def failures():
     """All that is not so."""
     swept = list(sweep.sweep(1))
     sample = list(sweep.sample())
-    some = list(mixed.mixed(1, 800, CALLS))
+    some = list(mixed.mixed(1, 1500, CALLS))
     yield from worked_files()
     yield from packed_cases()
     yield from frame_cases()

@@ -24,7 +24,8 @@ def entry_words(entry):
     kind = files.KINDS[entry.kind] if entry.kind <= files.RUNS else "no such kind"
     zero = f", zero field {entry.zero}" if entry.zero else ""
     n = f" ({plural(files.run_values(entry), 'value')})" if entry.kind == files.RUNS and entry.length > 2048 else ""
-    fields = f"width {entry.width}{zero}, length {entry.length}{n}, reference {entry.reference}"
+    ends = "" if entry.smallest is None else f", smallest {entry.smallest}, largest {entry.largest}"
+    fields = f"width {entry.width}{zero}, length {entry.length}{n}, reference {entry.reference}{ends}"
     return f"kind {entry.kind} ({kind}), {fields}"
 
 
@@ -36,22 +37,32 @@ def body_words(data, start, end):
     return f"body from byte {start} to {end}{there}"
 
 
+def body_fault(data, entry, start):
+    """What is wrong with a body, or with the smallest and the largest that its entry says, in words; None where it is
+    good or not all there."""
+    body = data[start : start + entry.length]
+    if len(body) < entry.length:
+        return None
+    return files.index_fault(entry, body) or files.range_fault(entry, body)
+
+
 def entry_lines(data):
     """A line for each entry that is there, one more where something is wrong in it, and one for a cut entry."""
     if len(data) < files.HEAD.size:
         return
     count = files.count_of(data)
-    whole, rest = divmod(len(data) - files.HEAD.size, files.ENTRY.size)
+    size = files.entry_form(data).size
+    whole, rest = divmod(len(data) - files.HEAD.size, size)
     start = files.contents_size(data)
     for i in range(min(count, whole)):
         entry = files.entry_at(data, i)
         yield f"entry {i}: {entry_words(entry)}; {body_words(data, start, start + entry.length)}"
-        fault = files.entry_fault(entry)
+        fault = files.entry_fault(entry, files.edition_of(data)) or body_fault(data, entry, start)
         if fault:
             yield f"  WRONG: {fault}"
         start += entry.length
     if whole < count:
-        yield f"entry {whole} of {count}: cut short, {rest} of its {files.ENTRY.size} bytes are there"
+        yield f"entry {whole} of {count}: cut short, {rest} of its {size} bytes are there"
 
 
 def value_lines(data):
