@@ -1,6 +1,6 @@
 """A question for each call, made from what the call takes."""
-from . import build, drawers, trickle, writer
-from .stream import BLOCK_OUT, CHECK, ROW_LOOKUP, STARTED, TRICKLE, TRICKLE_FROM, UNPACK_BLOCKS, WRITE, Question
+from . import build, drawers, search, trickle, writer
+from .stream import BLOCK_OUT, CHECK, ROW_LOOKUP, SEARCH, STARTED, TRICKLE, TRICKLE_FROM, UNPACK_BLOCKS, WRITE, Question
 
 
 def ask_check(name, data):
@@ -30,6 +30,19 @@ def ask_write(dice, name, values, room):
 def ask_to_fit(dice, name, values, more=0):
     """A write into an output that is as long as the file, or longer by that much, or shorter where it is below 0."""
     return ask_write(dice, name, values, len(writer.file_of(values)) + more)
+
+
+def ask_search(dice, name, data, low, high, room):
+    """A search with room for so many rows. What the room holds before is thrown, so that each place is a mark."""
+    said = f"{name}, {low} to {high}, room for {room}"
+    return Question(SEARCH, said, data, build.words((low, high)), dice.bytes(8 * room))
+
+
+def ask_found(dice, name, data, low, high, more=1):
+    """A search with room for the rows that are found and so many more, or fewer where that is below 0. Where the search
+    is refused for another reason, there is room for a few."""
+    _, rows = search.search(data, low, high, 2**18)
+    return ask_search(dice, name, data, low, high, max((len(rows) if rows is not None else 3) + more, 0))
 
 
 def ask_drawer(dice, op, name, t, width, blocks, given, room, reference=0):

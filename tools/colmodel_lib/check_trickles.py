@@ -176,7 +176,7 @@ def how_cut(question):
         "several after full": sum(1 for end in ends if end > size) > 1,
         "just full": bool(size) and max(ends, default=0) == size,
     }
-    return {word for word, so in words.items() if so} | {f"of {length}" for length in set(lengths) if length in (7, 8, 9)}
+    return {word for word, so in words.items() if so} | {f"of {n}" for n in (7, 8, 9) if n in lengths}
 
 
 CUTS = {"none", "an empty one first", "an empty one last", "two empty ones", "all of one byte", "all in one"}
@@ -221,7 +221,7 @@ def states_reached(asked):
 
 
 def wrong_ones_told(swept, sample):
-    """The sweep finds out every wrong trickle, the sample those that it has the cases for, and neither the right one."""
+    """The sweep finds out every wrong trickle, and the sample those that it has the cases for; and not the right one."""
     parts, calls = wrong_trickles.WRONG_PARTS, wrong_trickles.WRONG_CALLS
     for name in wrong_trickles.not_told(swept, parts, calls):
         yield f"the sweep does not find out a wrong trickle: {name}"

@@ -13,8 +13,8 @@ A column file, little-endian throughout:
     kind 3, runs          width 0, reference 0            2048 + 8·n bytes: 1,024 indices u16, n values (1 to 1,024);
                                                           from Item 11 on in edition 1 alone
 
-The tests stand in Item 1's own order, which is not the order of their numbers: CONTENTS_TESTS has those that look at the
-contents and the lengths, and BODY_TESTS those that look into bodies, 13 and then 15. Each of these goes through all
+The tests stand in Item 1's own order, which is not the order of their numbers: CONTENTS_TESTS has those that look at
+the contents and the lengths, and BODY_TESTS those that look into bodies, 13 and then 15. Each of these goes through all
 blocks before the next one begins. Before them stands 2, the length of the block output, and after them 12, a row or
 block number that is too high.
 
@@ -94,8 +94,12 @@ def entry_at(data, i):
     return Entry(*form.unpack_from(data, HEAD.size + form.size * i))
 
 
+@functools.lru_cache(maxsize=50)
 def entries_of(data):
-    return [entry_at(data, i) for i in range(count_of(data))]
+    """All entries. They are kept for a while, since each test looks at them."""
+    form = entry_form(data)
+    fields = form.iter_unpack(data[HEAD.size : HEAD.size + form.size * count_of(data)])
+    return tuple(Entry(*some) for some in fields)
 
 
 def contents_length(edition, count):
@@ -205,7 +209,7 @@ def words_of(body):
     return struct.unpack(f"<{len(body) // 8}Q", body)
 
 
-@functools.lru_cache(maxsize=300)
+@functools.lru_cache(maxsize=500)
 def values_in(kind, width, reference, body):
     if kind == RUNS:
         return layout.decode(words_of(body[INDICES.size :]), INDICES.unpack_from(body))
@@ -272,9 +276,9 @@ def range_fault(entry, body):
 
 def lowest_with(number, fault, data, blocks):
     """The answer for the lowest of these blocks that has the fault."""
-    entries, bodies = entries_of(data), bodies_of(data)
+    entries, where = entries_of(data), spans(data)
     for i in blocks:
-        words = fault(entries[i], bodies[i])
+        words = fault(entries[i], data[slice(*where[i])])
         if words:
             return Answer(number, i, f"block {i}: {words}")
 

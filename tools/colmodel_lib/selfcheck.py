@@ -1,22 +1,22 @@
 """Holds the model and the cases to what can be said of them without running any of the port.
 
 Each check is a function that gives the things that are not so, in words. Numbers here are worked out by hand from
-documents 01 and 02. What is said of writes stands in check_writes.py, what is said of drawers in check_drawers.py, and
-what is said of trickles in check_trickles.py.
+documents 01 and 02. What is said of writes stands in check_writes.py, and what is said of drawers, trickles and
+searches in check_drawers.py, check_trickles.py and check_searches.py.
 """
 import io
 import struct
 
-from . import build, check_drawers, check_trickles, check_writes, files, layout, mixed, mixed_writes, sweep
-from . import sweep_reads
+from . import build, check_drawers, check_searches, check_trickles, check_writes, files, layout, mixed, mixed_drawers
+from . import mixed_searches, mixed_trickles, mixed_writes, sweep, sweep_reads
 from .ask import ask_row
 from .build import Dice, column_file
 from .check_writes import unless
 from .files import DIFFERENCES, FRAME, PACKED, RUNS
 from .sweep_reads import ENTRY_WRONG, RANGE_WRONG, RUNS_WRONG, SEVENS, SEVENS_2, WAYS
 from .switches import EDITION_WRITTEN, EDITIONS, RUNS_IN_EDITION_2
-from .stream import BLOCK_OUT, CALLS, CHECK, DRAWERS, FOR_PACK_BLOCKS, NO_COUNT, ROW_LOOKUP, TRICKLE, TRICKLE_FROM
-from .stream import TRICKLES, UNPACK_BLOCKS, WRITE, Outcome, Question, answered, cases, record, replay
+from .stream import BLOCK_OUT, CALLS, CHECK, DRAWERS, FOR_PACK_BLOCKS, NO_COUNT, ROW_LOOKUP, SEARCH, TRICKLE
+from .stream import TRICKLE_FROM, TRICKLES, UNPACK_BLOCKS, WRITE, Outcome, Question, answered, cases, record, replay
 
 OF_EDITION_2 = {15} if 2 in EDITIONS else set()
 GIVEN = {  # The numbers that each call can give, from Items 1, 3, 7, 9 and 10.
@@ -24,6 +24,7 @@ GIVEN = {  # The numbers that each call can give, from Items 1, 3, 7, 9 and 10.
     BLOCK_OUT: {0, 2, 8, 9, 10, 11, 12, 13} | OF_EDITION_2,
     ROW_LOOKUP: {0, 8, 9, 10, 11, 12, 13} | OF_EDITION_2,
     WRITE: {0, 2, 14},
+    SEARCH: {0, 8, 9, 10, 11, 13, 14, 15},
     UNPACK_BLOCKS: {0, 1, 2, 3},
     FOR_PACK_BLOCKS: {0, 1, 2, 3},
     TRICKLE: {0, 1, 2, 16},
@@ -214,7 +215,8 @@ def order_of_refusals(asked):
     wanted = {(2, 8), (2, 9), (2, 10), (2, 11), (2, 13), (2, 12), (8, 9), (9, 8), (8, 10), (10, 8), (8, 13), (8, 12)}
     wanted |= {(9, 10), (9, 11), (9, 13), (9, 12), (10, 11), (10, 13), (10, 12), (11, 13), (11, 12), (13, 12)}
     if 2 in EDITIONS:
-        wanted |= {(2, 15), (8, 15), (9, 15), (10, 15), (11, 15), (15, 12)} | ({(13, 15)} if RUNS_IN_EDITION_2 else set())
+        wanted |= {(2, 15), (8, 15), (9, 15), (10, 15), (11, 15), (15, 12)}
+        wanted |= {(13, 15)} if RUNS_IN_EDITION_2 else set()
     yield from unless(pairs == wanted, f"the pairs of refusals are {sorted(pairs)}")
 
 
@@ -264,10 +266,13 @@ def what_is_reached(name, questions, by_rows=False):
 
 def bytes_to_spoil(question, outcome):
     """Places in the output: its first and last byte. Of a file that is written also one in each field of the contents,
-    the first of the bodies, the file's last, and the one behind it. Of a drawer that is done the ends of each block."""
+    the first of the bodies, the file's last, and the one behind it. Of a drawer that is done the ends of each block, and
+    of a search the ends of its rows."""
     at = {0, len(outcome.c) - 1}
     if question.op == WRITE and not outcome.number:
-        at |= {2, 4, 5, 6, 8, 12, 20, outcome.value - 1, outcome.value} | ({28, 36} if EDITION_WRITTEN == 2 else set())
+        at |= {2, 4, 5, 6, 8, 12, 20, 28, 36, outcome.value - 1, outcome.value}
+    if question.op == SEARCH and not outcome.number:
+        at |= {8 * outcome.value - 1, 8 * outcome.value}
     if question.op in DRAWERS and not outcome.number and question.index:
         size = len(outcome.c) // question.index
         at |= {size * block + end for block in range(question.index) for end in (-1, 0)}
@@ -288,7 +293,7 @@ def spoiled(questions):
         if question.op == ROW_LOOKUP:
             yield question, outcome._replace(value=(outcome.value + 2**63) % 2**64)
             yield from ((question, outcome._replace(reference=count)) for count in wrong_counts(outcome.reference))
-        if question.op == WRITE or question.op in DRAWERS + TRICKLES:
+        if question.op in (WRITE, SEARCH, *DRAWERS, *TRICKLES):
             yield question, outcome._replace(value=outcome.value + 1)
         for at in bytes_to_spoil(question, outcome):
             c = bytearray(outcome.c)
@@ -329,6 +334,13 @@ def streams(questions):
     question = Question(FOR_PACK_BLOCKS, "a drawer", taken, c=before, index=2, t=16, width=5, reference=40000)
     same = record(question, answered(question)) == head + taken + before + before
     yield from unless(same, "a record of a drawer has another form")
+    # Of two blocks of sevens the second is to be listed, and it is not, since its entry says 8.
+    head = struct.pack("<BBHB3xQQQQ4I", SEARCH, 64, 0, 15, 1, 0, 0, 0, 68, 2, 3, 0)
+    blocks = [build.frame(0, b"", 7), build.frame(0, b"", 7).but(largest=8)]
+    data, bounds = column_file(blocks, 2), struct.pack("<2Q", 8, 9)
+    question = Question(SEARCH, "a search", data, bounds, b"\xa5" * 24)
+    same = record(question, answered(question)) == head + data + bounds + b"\xa5" * 48
+    yield from unless(same, "a record of a search has another form")
     # A state made by hand of width 2 with 250 bytes held takes 6 of 9 bytes, and the output is too short.
     head = struct.pack("<BBHB3xQQQQ4I", TRICKLE_FROM, 64, 2, 2, 0, 6, 0, 250, 8201, 3, 1, 0)
     taken, lengths = bytes(8192) + b"abcdefghi", struct.pack("<3Q", 4, 0, 5)
@@ -339,14 +351,34 @@ def streams(questions):
         wrong = record(question._replace(**other), Outcome(0, 0, question.c))
         said = replay(io.BytesIO(wrong))
         yield from unless(said == ["bad stream at 0"], f"the replay of a trickle that cannot be says {said}")
-    yield from unless(len(whole) < 1_000_000, f"the sample has {len(whole)} bytes, and is to be below a megabyte")
+
+
+def size_of_sample(questions):
+    """The sample of the calls that there are by then is below a megabyte."""
+    later = {SEARCH} if 2 not in EDITIONS else set()
+    size = sum(len(record(question, answered(question))) for question in questions if question.op not in later)
+    yield from unless(size < 1_000_000, f"the sample has {size} bytes, and is to be below a megabyte")
+
+
+def some_mixed():
+    """Random cases: readings and writes as the stream of mixed cases has them, and then some of every other sort."""
+    readings = mixed.mixed(1, 1000, (*OF_READER, WRITE))
+    others = mixed_drawers.drawers_of(1, 200), mixed_trickles.trickles(1, 100), mixed_searches.searches(1, 300)
+    return [*readings, *(question for sort in others for question in sort)]
+
+
+def mixed_has_all():
+    """The stream of mixed cases has every call that it is to have, and no other."""
+    for ops in (CALLS, OF_READER, (*OF_READER, WRITE, SEARCH)):
+        found = {question.op for question in mixed.mixed(1, 150, ops)}
+        yield from unless(found == set(ops), f"mixed cases of {sorted(ops)} have the calls {sorted(found)}")
 
 
 def failures():
     """All that is not so."""
     swept = list(sweep.sweep(1))
     sample = list(sweep.sample())
-    some = list(mixed.mixed(1, 1500, CALLS))
+    some = some_mixed()
     yield from worked_files()
     yield from packed_cases()
     yield from frame_cases()
@@ -362,5 +394,8 @@ def failures():
     yield from check_writes.failures(swept, sample)
     yield from check_drawers.failures(swept, sample, some)
     yield from check_trickles.failures(swept, sample, some)
+    yield from check_searches.failures(swept, sample, some)
     yield from check_writes.reads_back(check_writes.all_written(mixed_writes.writes(1, 100)))
+    yield from mixed_has_all()
     yield from streams(sample)
+    yield from size_of_sample(sample)

@@ -1,10 +1,10 @@
 """Shows a column file to a person: its contents as far as they are there, and the answer with what is wrong.
 
 Of a write it shows the three candidates of each block, and the file that the model writes. Of a drawer it shows the
-blocks that the model gives, and of a trickle what every chunk adds.
+blocks that the model gives, of a trickle what every chunk adds, and of a search the blocks that it opens.
 """
-from . import drawers, files, trickle, writer
-from .stream import BY_HAND, DRAWERS, FOR_PACK_BLOCKS, NO_COUNT, ROW_LOOKUP, TRICKLE, TRICKLE_FROM, TRICKLES
+from . import drawers, files, search, trickle, writer
+from .stream import BY_HAND, DRAWERS, FOR_PACK_BLOCKS, NO_COUNT, ROW_LOOKUP, SEARCH, TRICKLE, TRICKLE_FROM, TRICKLES
 from .stream import UNPACK_BLOCKS, WRITE, fed_in
 
 
@@ -77,10 +77,15 @@ def answer_line(answer):
     return f"answer: number {answer.number}, place {answer.place}: {answer.why}"
 
 
-def lines(data):
+def contents_lines(data):
+    """What a file has in front of its bodies, and what is wrong in it."""
     yield plural(len(data), "byte")
     yield from head_lines(data)
     yield from entry_lines(data)
+
+
+def lines(data):
+    yield from contents_lines(data)
     answer = files.check(data)
     if not answer.number:
         yield from value_lines(data)
@@ -166,6 +171,19 @@ def drawer_difference(question, expected, answered):
             return
 
 
+def search_lines(question):
+    """What the model does with a search: the file, the blocks that are opened, the first rows, and the answer."""
+    low, high = files.words_of(question.b)
+    yield from contents_lines(question.a)
+    answer, rows = search.search(question.a, low, high, len(question.c) // 8)
+    if answer.number not in (8, 9, 10, 11):
+        blocks = search.opened(question.a, low, high)
+        yield f"{low} to {high}: {plural(len(blocks), 'block')} opened {' '.join(map(str, blocks))}".rstrip()
+    if rows is not None:
+        yield f"{plural(len(rows), 'row')} {' '.join(map(str, rows[:8]))}{' ...' if len(rows) > 8 else ''}".rstrip()
+    yield answer_line(answer)
+
+
 def state_of(question):
     """The state that a trickle begins with, and where it comes from, in words."""
     answer, state = trickle.start(question.width)
@@ -210,6 +228,9 @@ def given_words(question):
         return f"{plural(len(question.a) // 8, 'number')}, output of {plural(len(question.c), 'byte')}"
     if question.op in TRICKLES:
         return trickle_words(question)
+    if question.op == SEARCH:
+        low, high = files.words_of(question.b)
+        return f"from {low} to {high}, room for {plural(len(question.c) // 8, 'row')}"
     if question.op not in DRAWERS:
         return f"index {question.index}, output of {plural(len(question.c) // 8, 'place')}"
     framed = f", reference {question.reference}" if question.op == FOR_PACK_BLOCKS else ""
@@ -233,6 +254,8 @@ def case_lines(i, question, expected, answered):
         yield from drawer_lines(question, answered)
     elif question.op in TRICKLES:
         yield from trickle_lines(question)
+    elif question.op == SEARCH:
+        yield from search_lines(question)
     elif question.op == WRITE:
         yield from write_lines(files.words_of(question.a), len(question.c))
     else:

@@ -4,17 +4,17 @@ A question is what goes into a call. An outcome is all that a call gives and lea
 each op, and ELEMENTS the bytes of an element of a, b and c, so a later call needs a line in each. The calls on drawers
 have elements of T bits; the others have no size, and T is 64 there.
 
-docs/CASES.md does not say what a trickle is whose chunk lengths do not add up to the bytes that are fed, or whose state
-made by hand lacks a part of its room, or whose reference is neither 0 nor 1. No such case is written here, and one that
-is read makes a bad stream.
+docs/CASES.md does not say what a search with other than two bounds is, and neither a trickle whose chunk lengths do not
+add up to the bytes that are fed, or whose state made by hand lacks a part of its room, or whose reference is neither 0
+nor 1. No such case is written here, and one that is read makes a bad stream.
 """
 import struct
 from typing import NamedTuple
 
-from . import drawers, files, trickle, writer
+from . import drawers, files, search, trickle, writer
 
 HEAD = struct.Struct("<BBHB3xQQQQ4I")
-CHECK, BLOCK_OUT, ROW_LOOKUP, WRITE = 16, 17, 18, 19
+CHECK, BLOCK_OUT, ROW_LOOKUP, WRITE, SEARCH = 16, 17, 18, 19, 20
 UNPACK_BLOCKS, FOR_PACK_BLOCKS = DRAWERS = 24, 25
 TRICKLE, TRICKLE_FROM = TRICKLES = 26, 30
 ELEMENTS = {
@@ -22,6 +22,7 @@ ELEMENTS = {
     BLOCK_OUT: (1, 1, 8),
     ROW_LOOKUP: (1, 1, 8),
     WRITE: (8, 1, 1),
+    SEARCH: (1, 8, 8),
     TRICKLE: (1, 8, 8),
     TRICKLE_FROM: (1, 8, 8),
 }
@@ -81,6 +82,13 @@ def to_write(q):
     return refused(answer, q) if answer.number else Outcome(0, 0, data + q.c[len(data) :], len(data))
 
 
+def to_search(q):
+    answer, rows = search.search(q.a, *files.words_of(q.b), len(q.c) // 8)
+    if answer.number:
+        return refused(answer, q)
+    return Outcome(0, 0, struct.pack(f"<{len(rows)}Q", *rows) + q.c[8 * len(rows) :], len(rows))
+
+
 def to_unpack_blocks(q):
     answer, values = drawers.unpack_blocks(q.t, q.width, q.index, q.a, len(q.c) * 8 // q.t)
     return refused(answer, q) if answer.number else Outcome(0, 0, values)
@@ -110,6 +118,7 @@ CALLS = {
     BLOCK_OUT: to_block_out,
     ROW_LOOKUP: to_row_lookup,
     WRITE: to_write,
+    SEARCH: to_search,
     UNPACK_BLOCKS: to_unpack_blocks,
     FOR_PACK_BLOCKS: to_for_pack_blocks,
     TRICKLE: to_trickle,
@@ -132,6 +141,11 @@ def takes_reference(op):
     return op in (FOR_PACK_BLOCKS, TRICKLE_FROM)
 
 
+def search_fault(q):
+    """What of a search there cannot be, in words; None where all of it can."""
+    return None if len(q.b) == 16 else f"a search has {len(q.b) // 8} bounds, and not two"
+
+
 def fed_in(q):
     """The bytes that a trickle feeds."""
     return q.a[trickle.ROOM :] if q.op == TRICKLE_FROM and q.reference == BY_HAND else q.a
@@ -146,6 +160,9 @@ def trickle_fault(q):
     if sum(files.words_of(q.b)) != len(fed_in(q)):
         return f"the chunks have {sum(files.words_of(q.b))} bytes, and {len(fed_in(q))} are fed"
     return None
+
+
+FAULTS = {SEARCH: search_fault, TRICKLE: trickle_fault, TRICKLE_FROM: trickle_fault}
 
 
 def answered(question):
@@ -180,8 +197,9 @@ def cases(stream):
             raise BadStream("a record's buffers are cut short")
         given, expected = (reference, 0) if takes_reference(op) else (0, reference)
         question = Question(op, "", a, b, c, index, t, width, given)
-        if op in TRICKLES and trickle_fault(question):
-            raise BadStream(trickle_fault(question))
+        fault = FAULTS[op](question) if op in FAULTS else None
+        if fault:
+            raise BadStream(fault)
         yield question, Outcome(number, place, c_exit, value, expected)
 
 

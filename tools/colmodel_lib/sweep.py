@@ -1,9 +1,10 @@
 """All deliberate cases, and the sample that the repository keeps.
 
-The cases of Items 1 and 5 come from sweep_reads.py, and what Item 9 adds to them from sweep_editions.py; those of Item 3
-from sweep_writes.py, those of Item 7 from sweep_drawers.py and those of Item 10 from sweep_trickles.py.
+The cases of Items 1 and 5 come from sweep_reads.py, and what Item 9 adds to them from sweep_editions.py; those of Item
+3 from sweep_writes.py, those of Item 7 from sweep_drawers.py, those of Item 10 from sweep_trickles.py, and those of
+Item 9's search from sweep_searches.py.
 """
-from . import sweep_drawers, sweep_editions, sweep_reads, sweep_trickles, sweep_writes
+from . import sweep_drawers, sweep_editions, sweep_reads, sweep_searches, sweep_trickles, sweep_writes
 from .build import Dice
 
 SECTIONS = (
@@ -12,6 +13,7 @@ SECTIONS = (
     *sweep_writes.SECTIONS,
     *sweep_drawers.SECTIONS,
     *sweep_trickles.SECTIONS,
+    *sweep_searches.SECTIONS,
 )
 
 
@@ -28,3 +30,4 @@ def sample():
     yield from sweep_writes.small_writes(Dice("sample of writes"))
     yield from sweep_drawers.small_drawers(Dice("sample of drawers"))
     yield from sweep_trickles.small_trickles(Dice("sample of trickles"))
+    yield from sweep_searches.small_searches(Dice("sample of searches"))

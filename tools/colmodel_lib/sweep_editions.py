@@ -41,8 +41,8 @@ def narrow_runs(dice):
 
 
 def edition_2_runs(dice):
-    """Run blocks in edition 2, with the range of the values, and with that of the list. From Item 11 on all are refused,
-    so then a few are enough."""
+    """Run blocks in edition 2, with the range of the values, and with that of the list. From Item 11 on all are
+    refused, so then a few are enough."""
     for name, block in narrow_runs(dice).items():
         yield from ask_all(dice, f"edition 2, runs with {name}", column_file([frame(0, b"", 7), block], 2), 1, 1500)
         listed = files.words_of(block.body[2048:])
@@ -52,8 +52,8 @@ def edition_2_runs(dice):
         for n in (1, 2, 256, 1024):
             data = column_file([any_runs(dice, n)], 2)
             yield from ask_all(dice, f"edition 2, {n} runs", data, row=dice.below(1024))
-            bad = with_index(any_runs(dice, n), 1023, n)
-            yield from ask_all(dice, f"edition 2, {n} runs, index {n}", column_file([frame(0, b"", 7), bad], 2), 1, 1500)
+            data = column_file([frame(0, b"", 7), with_index(any_runs(dice, n), 1023, n)], 2)
+            yield from ask_all(dice, f"edition 2, {n} runs, index {n}", data, 1, 1500)
 
 
 # Ranges that are not the body's.

@@ -305,8 +305,9 @@ def of_trickles(questions):
 
 
 def not_told(questions, parts, calls):
-    """Those of these trickles that give what the right one gives in every question."""
-    questions = of_trickles(questions)
+    """Those of these trickles that give what the right one gives in every question. The questions with few chunks come
+    first, since they are answered soon."""
+    questions = sorted(of_trickles(questions), key=lambda question: len(question.b))
     outcomes = [answered(question) for question in questions]
     for name, functions in parts.items():
         with instead(functions):
