@@ -221,7 +221,7 @@ def states_reached(asked):
 
 
 def wrong_ones_told(swept, sample):
-    """The sweep finds out every wrong trickle, and the sample those that it has the cases for; and not the right one."""
+    """The sweep finds out every wrong trickle, the sample those that it has cases for, and neither the right one."""
     parts, calls = wrong_trickles.WRONG_PARTS, wrong_trickles.WRONG_CALLS
     for name in wrong_trickles.not_told(swept, parts, calls):
         yield f"the sweep does not find out a wrong trickle: {name}"

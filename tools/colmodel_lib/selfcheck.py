@@ -1,14 +1,14 @@
 """Holds the model and the cases to what can be said of them without running any of the port.
 
 Each check is a function that gives the things that are not so, in words. Numbers here are worked out by hand from
-documents 01 and 02. What is said of writes stands in check_writes.py, and what is said of drawers, trickles and
-searches in check_drawers.py, check_trickles.py and check_searches.py.
+documents 01 and 02. What is said of edition 2 stands in check_editions.py, what is said of writes in check_writes.py,
+and what is said of drawers, trickles and searches in check_drawers.py, check_trickles.py and check_searches.py.
 """
 import io
 import struct
 
-from . import build, check_drawers, check_searches, check_trickles, check_writes, files, layout, mixed, mixed_drawers
-from . import mixed_searches, mixed_trickles, mixed_writes, sweep, sweep_reads
+from . import build, check_drawers, check_editions, check_searches, check_trickles, check_writes, files, layout
+from . import mixed, mixed_drawers, mixed_searches, mixed_trickles, mixed_writes, sweep, sweep_reads
 from .ask import ask_row
 from .build import Dice, column_file
 from .check_writes import unless
@@ -266,8 +266,8 @@ def what_is_reached(name, questions, by_rows=False):
 
 def bytes_to_spoil(question, outcome):
     """Places in the output: its first and last byte. Of a file that is written also one in each field of the contents,
-    the first of the bodies, the file's last, and the one behind it. Of a drawer that is done the ends of each block, and
-    of a search the ends of its rows."""
+    the first of the bodies, the file's last, and the one behind it. Of a drawer that is done the ends of each block,
+    and of a search the ends of its rows."""
     at = {0, len(outcome.c) - 1}
     if question.op == WRITE and not outcome.number:
         at |= {2, 4, 5, 6, 8, 12, 20, 28, 36, outcome.value - 1, outcome.value}
@@ -391,6 +391,7 @@ def failures():
     yield from what_is_reached("sweep", swept)
     yield from what_is_reached("sample", sample, by_rows=True)
     yield from what_is_reached("mixed", some)
+    yield from check_editions.failures(swept, sample)
     yield from check_writes.failures(swept, sample)
     yield from check_drawers.failures(swept, sample, some)
     yield from check_trickles.failures(swept, sample, some)

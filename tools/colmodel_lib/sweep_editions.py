@@ -203,9 +203,11 @@ def small_runs(dice):
 
 
 def small_faults(dice):
-    """Each fault alone, and each two of which the range is one."""
+    """Each fault alone, and each two of which the range is one; then the range and an output of a wrong length."""
     for way in sweep_reads.ways():
         if sweep_reads.WAYS[way]["edition"] == 2:
             for steps in sweep_reads.sets_of_steps(sweep_reads.steps_of(sweep_reads.ROW_LOOKUP), way):
                 if len(steps) < 2 or (sweep_reads.RANGE_WRONG in steps and len(steps) == 2):
                     yield sweep_reads.faulty_question(sweep_reads.ROW_LOOKUP, steps, way, lean=True)
+            steps = sweep_reads.ROOM, sweep_reads.RANGE_WRONG
+            yield sweep_reads.faulty_question(sweep_reads.BLOCK_OUT, steps, way, room=3, lean=True)
