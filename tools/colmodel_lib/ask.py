@@ -1,6 +1,7 @@
 """A question for each call, made from what the call takes."""
-from . import build, drawers, search, trickle, writer
-from .stream import BLOCK_OUT, CHECK, ROW_LOOKUP, SEARCH, STARTED, TRICKLE, TRICKLE_FROM, UNPACK_BLOCKS, WRITE, Question
+from . import build, drawers, rewrite, search, trickle, writer
+from .stream import BLOCK_OUT, CHECK, REWRITE, ROW_LOOKUP, SEARCH, STARTED, TRICKLE, TRICKLE_FROM, UNPACK_BLOCKS, WRITE
+from .stream import Question
 
 
 def ask_check(name, data):
@@ -43,6 +44,18 @@ def ask_found(dice, name, data, low, high, more=1):
     is refused for another reason, there is room for a few."""
     _, rows = search.search(data, low, high, 2**18)
     return ask_search(dice, name, data, low, high, max((len(rows) if rows is not None else 3) + more, 0))
+
+
+def ask_rewrite(dice, name, data, room):
+    """A rewrite into an output of that many bytes, which are thrown."""
+    return Question(REWRITE, f"{name}, {len(data)} bytes into {room}", data, c=dice.bytes(room))
+
+
+def ask_rewritten(dice, name, data, more=0):
+    """A rewrite into an output that is as long as the new file, or longer by that much, or shorter where it is below 0.
+    Where the file is refused, the output is as long as the file."""
+    _, new = rewrite.rewrite(data, 2**23)
+    return ask_rewrite(dice, name, data, max(len(data if new is None else new) + more, 0))
 
 
 def ask_drawer(dice, op, name, t, width, blocks, given, room, reference=0):

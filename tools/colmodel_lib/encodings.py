@@ -40,3 +40,66 @@ BY_KIND = {PACKED: as_packed, FRAME: as_frame, DIFFERENCES: as_differences, RUNS
 def as_kind(kind, values):
     """The block in that kind, at the least width."""
     return BY_KIND[kind](values)
+
+
+# Every way, by name.
+
+
+def other_reference(values):
+    """The farthest reference below the smallest that needs no more width; None where there is none."""
+    width = writer.least_width([max(values) - min(values)])
+    spare = 2**width - 1 - (max(values) - min(values))
+    return (min(values) - spare) % 2**layout.T if spare else None
+
+
+def other_base(values, lane):
+    """The base with one number less in a lane, which needs no more width where the differences have any; else None."""
+    base = list(writer.base_of(values))
+    base[lane] = (base[lane] - 1) % 2**layout.T
+    return base if any(layout.delta(values, writer.base_of(values))) else None
+
+
+def packed_ways(values):
+    width = writer.least_width(values)
+    yield "kind 0", as_packed(values)
+    if width < layout.T:
+        yield "kind 0 one bit wider", as_packed(values, more=1)
+        yield "kind 0 at width 64", as_packed(values, more=layout.T - width)
+
+
+def frame_ways(values):
+    smallest, largest = min(values), max(values)
+    width = writer.least_width([largest - smallest])
+    yield "kind 1", as_frame(values)
+    if width < layout.T:
+        yield "kind 1 one bit wider", as_frame(values, more=1)
+    references = {"from 0": 0, "from one less": (smallest - 1) % 2**layout.T, "from the largest": largest}
+    references |= {"from afar at the same width": other_reference(values)}
+    for name, reference in references.items():
+        if reference not in (None, smallest):
+            yield f"kind 1 {name}", as_frame(values, reference)
+
+
+def difference_ways(values):
+    width = writer.least_width(layout.delta(values, writer.base_of(values)))
+    yield "kind 2", as_differences(values)
+    if width < layout.T:
+        yield "kind 2 one bit wider", as_differences(values, more=1)
+    for lane in (0, layout.LANES - 1):
+        base = other_base(values, lane)
+        if base is not None:
+            yield f"kind 2 with another base in lane {lane}", as_differences(values, base)
+    if any(writer.base_of(values)):
+        yield "kind 2 from zeros", as_differences(values, [0] * layout.LANES)
+
+
+def run_ways(values):
+    yield "kind 3", as_runs(values)
+    if len(set(values)) < 1020:
+        yield "kind 3 with unused values", as_runs(values, before=[0, 2**layout.T - 1], after=[5])
+
+
+def ways_of(values, runs):
+    """Blocks that hold these numbers, by name; with run blocks among them where those are read."""
+    found = {**dict(packed_ways(values)), **dict(frame_ways(values)), **dict(difference_ways(values))}
+    return {**found, **dict(run_ways(values))} if runs else found

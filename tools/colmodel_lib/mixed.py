@@ -1,15 +1,16 @@
 """Cases that nobody thought of, of every call that a stream is to have.
 
 Two cases of ten are writes, which mixed_writes.py makes, one is a drawer, from mixed_drawers.py, one a trickle, from
-mixed_trickles.py, and one a search, from mixed_searches.py. The others are readings, from mixed_reads.py, one of them
-of a file that the model wrote. Where the stream is not to have a call, a reading takes its place.
+mixed_trickles.py, one a search, from mixed_searches.py, and one a rewrite, from mixed_rewrites.py. The others are
+readings, from mixed_reads.py, one of them of a file that the model wrote. Where the stream is not to have a call, a
+reading takes its place.
 
 Each case has dice of its own, made from the seed and the case's number. So case 17 of a seed is the same however many
 cases are written.
 """
-from . import mixed_drawers, mixed_reads, mixed_searches, mixed_trickles, mixed_writes
+from . import mixed_drawers, mixed_reads, mixed_rewrites, mixed_searches, mixed_trickles, mixed_writes
 from .build import Dice
-from .stream import DRAWERS, SEARCH, TRICKLES, WRITE
+from .stream import DRAWERS, REWRITE, SEARCH, TRICKLES, WRITE
 
 # Of ten cases, by the number that is thrown: the calls that one can be of, and who makes it.
 OTHERS = {
@@ -18,6 +19,7 @@ OTHERS = {
     3: (DRAWERS, mixed_drawers.case),
     4: (TRICKLES, mixed_trickles.case),
     5: ((SEARCH,), mixed_searches.case),
+    6: ((REWRITE,), mixed_rewrites.case),
 }
 
 

@@ -2,20 +2,22 @@
 
 Each check is a function that gives the things that are not so, in words. Numbers here are worked out by hand from
 documents 01 and 02. What is said of edition 2 stands in check_editions.py, what is said of writes in check_writes.py,
-and what is said of drawers, trickles and searches in check_drawers.py, check_trickles.py and check_searches.py.
+and what is said of drawers, trickles, searches and rewrites in check_drawers.py, check_trickles.py, check_searches.py
+and check_rewrites.py.
 """
 import io
 import struct
 
-from . import build, check_drawers, check_editions, check_searches, check_trickles, check_writes, files, layout
-from . import mixed, mixed_drawers, mixed_searches, mixed_trickles, mixed_writes, sweep, sweep_reads
+from . import build, check_drawers, check_editions, check_rewrites, check_searches, check_trickles, check_writes, files
+from . import layout, mixed, mixed_drawers, mixed_rewrites, mixed_searches, mixed_trickles, mixed_writes, sweep
+from . import sweep_reads
 from .ask import ask_row
 from .build import Dice, column_file
 from .check_writes import unless
 from .files import DIFFERENCES, FRAME, PACKED, RUNS
 from .sweep_reads import ENTRY_WRONG, RANGE_WRONG, RUNS_WRONG, SEVENS, SEVENS_2, WAYS
 from .switches import EDITION_WRITTEN, EDITIONS, RUNS_IN_EDITION_2
-from .stream import BLOCK_OUT, CALLS, CHECK, DRAWERS, FOR_PACK_BLOCKS, NO_COUNT, ROW_LOOKUP, SEARCH, TRICKLE
+from .stream import BLOCK_OUT, CALLS, CHECK, DRAWERS, FOR_PACK_BLOCKS, NO_COUNT, REWRITE, ROW_LOOKUP, SEARCH, TRICKLE
 from .stream import TRICKLE_FROM, TRICKLES, UNPACK_BLOCKS, WRITE, Outcome, Question, answered, cases, record, replay
 
 OF_EDITION_2 = {15} if 2 in EDITIONS else set()
@@ -25,6 +27,7 @@ GIVEN = {  # The numbers that each call can give, from Items 1, 3, 7, 9 and 10.
     ROW_LOOKUP: {0, 8, 9, 10, 11, 12, 13} | OF_EDITION_2,
     WRITE: {0, 2, 14},
     SEARCH: {0, 8, 9, 10, 11, 13, 14, 15},
+    REWRITE: {0, 8, 9, 10, 11, 13, 14, 15},
     UNPACK_BLOCKS: {0, 1, 2, 3},
     FOR_PACK_BLOCKS: {0, 1, 2, 3},
     TRICKLE: {0, 1, 2, 16},
@@ -269,7 +272,7 @@ def bytes_to_spoil(question, outcome):
     the first of the bodies, the file's last, and the one behind it. Of a drawer that is done the ends of each block,
     and of a search the ends of its rows."""
     at = {0, len(outcome.c) - 1}
-    if question.op == WRITE and not outcome.number:
+    if question.op in (WRITE, REWRITE) and not outcome.number:
         at |= {2, 4, 5, 6, 8, 12, 20, 28, 36, outcome.value - 1, outcome.value}
     if question.op == SEARCH and not outcome.number:
         at |= {8 * outcome.value - 1, 8 * outcome.value}
@@ -293,7 +296,7 @@ def spoiled(questions):
         if question.op == ROW_LOOKUP:
             yield question, outcome._replace(value=(outcome.value + 2**63) % 2**64)
             yield from ((question, outcome._replace(reference=count)) for count in wrong_counts(outcome.reference))
-        if question.op in (WRITE, SEARCH, *DRAWERS, *TRICKLES):
+        if question.op in (WRITE, SEARCH, REWRITE, *DRAWERS, *TRICKLES):
             yield question, outcome._replace(value=outcome.value + 1)
         for at in bytes_to_spoil(question, outcome):
             c = bytearray(outcome.c)
@@ -341,6 +344,11 @@ def streams(questions):
     question = Question(SEARCH, "a search", data, bounds, b"\xa5" * 24)
     same = record(question, answered(question)) == head + data + bounds + b"\xa5" * 48
     yield from unless(same, "a record of a search has another form")
+    # Sevens of edition 1 become sevens of edition 2, and two bytes of the output are left.
+    head = struct.pack("<BBHB3xQQQQ4I", REWRITE, 64, 0, 0, 0, 36, 0, 0, 20, 0, 38, 0)
+    question = Question(REWRITE, "a rewrite", SEVENS, c=b"\xa5" * 38)
+    same = record(question, answered(question)) == head + SEVENS + b"\xa5" * 38 + SEVENS_2 + b"\xa5" * 2
+    yield from unless(same, "a record of a rewrite has another form")
     # A state made by hand of width 2 with 250 bytes held takes 6 of 9 bytes, and the output is too short.
     head = struct.pack("<BBHB3xQQQQ4I", TRICKLE_FROM, 64, 2, 2, 0, 6, 0, 250, 8201, 3, 1, 0)
     taken, lengths = bytes(8192) + b"abcdefghi", struct.pack("<3Q", 4, 0, 5)
@@ -355,7 +363,7 @@ def streams(questions):
 
 def size_of_sample(questions):
     """The sample of the calls that there are by then is below a megabyte."""
-    later = {SEARCH} if 2 not in EDITIONS else set()
+    later = {SEARCH, REWRITE} if 2 not in EDITIONS else {REWRITE} if RUNS_IN_EDITION_2 else set()
     size = sum(len(record(question, answered(question))) for question in questions if question.op not in later)
     yield from unless(size < 1_000_000, f"the sample has {size} bytes, and is to be below a megabyte")
 
@@ -363,7 +371,8 @@ def size_of_sample(questions):
 def some_mixed():
     """Random cases: readings and writes as the stream of mixed cases has them, and then some of every other sort."""
     readings = mixed.mixed(1, 1000, (*OF_READER, WRITE))
-    others = mixed_drawers.drawers_of(1, 200), mixed_trickles.trickles(1, 100), mixed_searches.searches(1, 300)
+    others = [mixed_drawers.drawers_of(1, 200), mixed_trickles.trickles(1, 100), mixed_searches.searches(1, 300)]
+    others += [mixed_rewrites.rewrites(1, 200)]
     return [*readings, *(question for sort in others for question in sort)]
 
 
@@ -396,6 +405,7 @@ def failures():
     yield from check_drawers.failures(swept, sample, some)
     yield from check_trickles.failures(swept, sample, some)
     yield from check_searches.failures(swept, sample, some)
+    yield from check_rewrites.failures(swept, sample, some)
     yield from check_writes.reads_back(check_writes.all_written(mixed_writes.writes(1, 100)))
     yield from mixed_has_all()
     yield from streams(sample)

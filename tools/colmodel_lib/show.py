@@ -1,11 +1,12 @@
 """Shows a column file to a person: its contents as far as they are there, and the answer with what is wrong.
 
 Of a write it shows the three candidates of each block, and the file that the model writes. Of a drawer it shows the
-blocks that the model gives, of a trickle what every chunk adds, and of a search the blocks that it opens.
+blocks that the model gives, of a trickle what every chunk adds, of a search the blocks that it opens, and of a rewrite
+the old file, the candidates and the new file.
 """
-from . import drawers, files, search, trickle, writer
-from .stream import BY_HAND, DRAWERS, FOR_PACK_BLOCKS, NO_COUNT, ROW_LOOKUP, SEARCH, TRICKLE, TRICKLE_FROM, TRICKLES
-from .stream import UNPACK_BLOCKS, WRITE, fed_in
+from . import drawers, files, rewrite, search, trickle, writer
+from .stream import BY_HAND, DRAWERS, FOR_PACK_BLOCKS, NO_COUNT, REWRITE, ROW_LOOKUP, SEARCH, TRICKLE, TRICKLE_FROM
+from .stream import TRICKLES, UNPACK_BLOCKS, WRITE, fed_in
 
 
 def plural(n, word):
@@ -184,6 +185,17 @@ def search_lines(question):
     yield answer_line(answer)
 
 
+def rewrite_lines(question):
+    """What the model does with a rewrite: the old file, and where it is taken the candidates and the new one."""
+    yield from contents_lines(question.a)
+    answer, new = rewrite.rewrite(question.a, len(question.c))
+    if answer.number in (0, 14):
+        yield from candidate_lines(rewrite.all_values(question.a))
+    if new is not None:
+        yield from contents_lines(new)
+    yield answer_line(answer)
+
+
 def state_of(question):
     """The state that a trickle begins with, and where it comes from, in words."""
     answer, state = trickle.start(question.width)
@@ -228,6 +240,8 @@ def given_words(question):
         return f"{plural(len(question.a) // 8, 'number')}, output of {plural(len(question.c), 'byte')}"
     if question.op in TRICKLES:
         return trickle_words(question)
+    if question.op == REWRITE:
+        return f"{plural(len(question.a), 'byte')}, output of {plural(len(question.c), 'byte')}"
     if question.op == SEARCH:
         low, high = files.words_of(question.b)
         return f"from {low} to {high}, room for {plural(len(question.c) // 8, 'row')}"
@@ -256,6 +270,8 @@ def case_lines(i, question, expected, answered):
         yield from trickle_lines(question)
     elif question.op == SEARCH:
         yield from search_lines(question)
+    elif question.op == REWRITE:
+        yield from rewrite_lines(question)
     elif question.op == WRITE:
         yield from write_lines(files.words_of(question.a), len(question.c))
     else:

@@ -11,10 +11,10 @@ nor 1. No such case is written here, and one that is read makes a bad stream.
 import struct
 from typing import NamedTuple
 
-from . import drawers, files, search, trickle, writer
+from . import drawers, files, rewrite, search, trickle, writer
 
 HEAD = struct.Struct("<BBHB3xQQQQ4I")
-CHECK, BLOCK_OUT, ROW_LOOKUP, WRITE, SEARCH = 16, 17, 18, 19, 20
+CHECK, BLOCK_OUT, ROW_LOOKUP, WRITE, SEARCH, REWRITE = 16, 17, 18, 19, 20, 21
 UNPACK_BLOCKS, FOR_PACK_BLOCKS = DRAWERS = 24, 25
 TRICKLE, TRICKLE_FROM = TRICKLES = 26, 30
 ELEMENTS = {
@@ -23,6 +23,7 @@ ELEMENTS = {
     ROW_LOOKUP: (1, 1, 8),
     WRITE: (8, 1, 1),
     SEARCH: (1, 8, 8),
+    REWRITE: (1, 1, 1),
     TRICKLE: (1, 8, 8),
     TRICKLE_FROM: (1, 8, 8),
 }
@@ -89,6 +90,11 @@ def to_search(q):
     return Outcome(0, 0, struct.pack(f"<{len(rows)}Q", *rows) + q.c[8 * len(rows) :], len(rows))
 
 
+def to_rewrite(q):
+    answer, data = rewrite.rewrite(q.a, len(q.c))
+    return refused(answer, q) if answer.number else Outcome(0, 0, data + q.c[len(data) :], len(data))
+
+
 def to_unpack_blocks(q):
     answer, values = drawers.unpack_blocks(q.t, q.width, q.index, q.a, len(q.c) * 8 // q.t)
     return refused(answer, q) if answer.number else Outcome(0, 0, values)
@@ -119,6 +125,7 @@ CALLS = {
     ROW_LOOKUP: to_row_lookup,
     WRITE: to_write,
     SEARCH: to_search,
+    REWRITE: to_rewrite,
     UNPACK_BLOCKS: to_unpack_blocks,
     FOR_PACK_BLOCKS: to_for_pack_blocks,
     TRICKLE: to_trickle,

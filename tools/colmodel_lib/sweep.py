@@ -1,10 +1,10 @@
 """All deliberate cases, and the sample that the repository keeps.
 
 The cases of Items 1 and 5 come from sweep_reads.py, and what Item 9 adds to them from sweep_editions.py; those of Item
-3 from sweep_writes.py, those of Item 7 from sweep_drawers.py, those of Item 10 from sweep_trickles.py, and those of
-Item 9's search from sweep_searches.py.
+3 from sweep_writes.py, those of Item 7 from sweep_drawers.py, those of Item 10 from sweep_trickles.py, those of Item 9's
+search from sweep_searches.py, and those of Item 11's rewrite from sweep_rewrites.py.
 """
-from . import sweep_drawers, sweep_editions, sweep_reads, sweep_searches, sweep_trickles, sweep_writes
+from . import sweep_drawers, sweep_editions, sweep_reads, sweep_rewrites, sweep_searches, sweep_trickles, sweep_writes
 from .build import Dice
 
 SECTIONS = (
@@ -14,6 +14,7 @@ SECTIONS = (
     *sweep_drawers.SECTIONS,
     *sweep_trickles.SECTIONS,
     *sweep_searches.SECTIONS,
+    *sweep_rewrites.SECTIONS,
 )
 
 
@@ -31,3 +32,4 @@ def sample():
     yield from sweep_drawers.small_drawers(Dice("sample of drawers"))
     yield from sweep_trickles.small_trickles(Dice("sample of trickles"))
     yield from sweep_searches.small_searches(Dice("sample of searches"))
+    yield from sweep_rewrites.small_rewrites(Dice("sample of rewrites"))

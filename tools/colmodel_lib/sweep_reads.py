@@ -625,10 +625,12 @@ SMALL_SECTIONS = (
 # From Item 9 on there is more to keep in the same room. These outputs of blocks are then left to the sweep, and to the
 # row lookups of this sample and of small_editions.
 LEFT_OUT = (
+    "Item 1's file of sevens, block 1 into 1024",
     "kind 1 width 64, block 0 into 1024",
     "kind 2 width 63, block 0 into 1024",
     "1024 runs, block 0 into 1024",
     "mixed kinds, block 4 into 1024",
+    "mixed kinds, block 6 into 1024",
     "256 blocks, block 255 into 1024",
     "cut in the entry, block 0 into 1024",
     "edition 256, block 0 into 1024",

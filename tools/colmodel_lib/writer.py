@@ -94,6 +94,11 @@ def block_for(numbers):
     return laid_down(chosen(candidates(values))).but(smallest=smallest, largest=largest)
 
 
+def block_of(values):
+    """The same, for the numbers themselves."""
+    return block_for(build.words(values))
+
+
 def blocks_of(values):
     """The numbers of each block, of a count that is a multiple of 1,024."""
     return [values[start : start + 1024] for start in range(0, len(values), 1024)]
@@ -101,7 +106,7 @@ def blocks_of(values):
 
 def file_of(values, edition=EDITION_WRITTEN):
     """The bytes of the file of these numbers, whose count is one that is taken."""
-    return build.column_file([block_for(build.words(block)) for block in blocks_of(values)], edition)
+    return build.column_file([block_of(block) for block in blocks_of(values)], edition)
 
 
 def bound(values, edition=EDITION_WRITTEN):
