@@ -1,7 +1,7 @@
 """Makes column files for cases: good ones, and ones in which something is wrong on purpose.
 
-A block is an entry and a body, and either may say what the other does not bear out. So every fault of Item 1 can be
-made by changing one field or one byte.
+A block is an entry and a body, and either may say what the other does not bear out. So every fault of Items 1 and 9
+can be made by changing one field or one byte.
 """
 import hashlib
 import struct
@@ -40,10 +40,27 @@ class Block(NamedTuple):
         return Block(self.entry._replace(**fields), self.body)
 
 
-def column_file(blocks, edition=files.EDITION, count=None):
-    """The bytes of a file with these blocks; count is what its head says of their number."""
+def ranged(block):
+    """The block with the smallest and the largest in its entry, where they are not given: the body's own. Where the
+    body cannot be read by the entry, they are 0 and 2^64 - 1, so that nothing is wrong with them."""
+    entry = block.entry
+    if None not in (entry.smallest, entry.largest):
+        return block
+    unread = files.entry_fault(entry) or len(block.body) != entry.length or files.index_fault(*block)
+    smallest, largest = (0, files.TOP) if unread else files.true_range(*block)
+    given = {"smallest": smallest, "largest": largest}
+    return block.but(**{field: value for field, value in given.items() if getattr(entry, field) is None})
+
+
+def column_file(blocks, edition=1, count=None, entries=None):
+    """The bytes of a file with these blocks; count is what its head says of their number, and entries is the edition
+    whose form they have, which is the file's own or, where there is none, that of edition 1."""
+    form = entries or (edition if edition in files.ENTRIES else 1)
+    if form == 2:
+        blocks = [ranged(block) for block in blocks]
     head = files.HEAD.pack(edition, len(blocks) if count is None else count)
-    return head + b"".join(files.ENTRY.pack(*b.entry) for b in blocks) + b"".join(b.body for b in blocks)
+    contents = b"".join(files.entry_bytes(form, block.entry) for block in blocks)
+    return head + contents + b"".join(block.body for block in blocks)
 
 
 def words(numbers):

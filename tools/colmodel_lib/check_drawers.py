@@ -234,7 +234,7 @@ def what_is_done(name, asked, counts, widths):
     """Each call is done at every size with these counts of blocks and widths."""
     for op, t in sweep_drawers.every_call():
         done = [question for question, outcome in asked if (question.op, question.t, outcome.number) == (op, t, 0)]
-        missing = set(counts) - {question.index for question in done}
+        missing = set(counts(t)) - {question.index for question in done}
         yield from unless(not missing, f"{name}: call {op} at T {t} is not done with M {sorted(missing)}")
         missing = set(widths(t)) - {question.width for question in done if question.index}
         yield from unless(not missing, f"{name}: call {op} at T {t} is not done at widths {sorted(missing)}")
@@ -276,10 +276,12 @@ def wrong_ones_told(sample, asked):
     """The sample and the sweep find out every wrong call, and not the right one."""
     few = [question for question in sample if question.op in DRAWERS]
     refused = [question for question, outcome in asked if outcome.number]
+    done = [question for question, outcome in asked if not outcome.number and question.index < 4]
     limit = [question for question, _ in asked if question.index > 254]
     at_length, at_limit = map(wrong_drawers.for_both, (wrong_drawers.WRONG_AT_LENGTH, wrong_drawers.WRONG_AT_LIMIT))
     for name, questions, wrong, sizes in (
-        ("sample", few, wrong_drawers.WRONG_BLOCKS, SIZES),
+        ("sample", few, wrong_drawers.WRONG_BLOCKS, (8, 16)),
+        ("sweep", done, wrong_drawers.WRONG_BLOCKS, SIZES),
         ("sample", few, wrong_drawers.for_both(wrong_drawers.WRONG_ANSWERS), SIZES),
         ("sample", few, at_length, (8,)),
         ("sweep", refused, at_length, SIZES),
@@ -307,7 +309,8 @@ def failures(swept, sample, mixed):
     for name, these in (("sweep", asked), ("sample", few), ("mixed", some)):
         yield from outputs_change(name, these)
         yield from numbers_reached(name, these, name != "mixed")
-    yield from what_is_done("sweep", asked, (0, 1, 2, 3, 16, 256), lambda t: range(t + 1))
-    yield from what_is_done("sample", few, (0, 1, 2), lambda t: (0, 3, t))
+    yield from what_is_done("sweep", asked, lambda t: (0, 1, 2, 3, 16, 256), lambda t: range(t + 1))
+    counts, widths = {8: (0, 1, 2), 16: (0, 1, 2)}, {8: (0, 3, 8), 16: (0, 3, 16)}
+    yield from what_is_done("sample", few, lambda t: counts.get(t, (0,)), lambda t: widths.get(t, (3,)))
     yield from what_is_refused(asked)
     yield from wrong_ones_told(sample, asked)

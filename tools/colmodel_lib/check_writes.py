@@ -1,4 +1,4 @@
-"""The part of the selfcheck that holds the model of the writer, and the cases of writes, to what Item 3 says.
+"""The part of the selfcheck that holds the model of the writer, and the cases of writes, to what Items 3 and 9 say.
 
 First come files that are worked out by hand. Then everything that the sweep writes is read back, and every body that
 would be preferred is tried and has to fail. Last come the writers of wrong_writers.py.
@@ -9,6 +9,9 @@ from . import build, files, layout, shapes, sweep_writes, writer, wrong_writers
 from .files import DIFFERENCES, FRAME, PACKED
 from .shapes import TOP, along_rows
 from .stream import BLOCK_OUT, CHECK, ROW_LOOKUP, WRITE, Question, answered
+from .switches import EDITION_WRITTEN
+
+ENTRY_BYTES, MOST_BYTES = {1: (16, 8208), 2: (32, 8224)}[EDITION_WRITTEN]  # of a block's entry, and of all of it
 
 
 def unless(good, said):
@@ -83,14 +86,18 @@ WORKED = {
 
 
 def by_hand(blocks):
-    """The file of some of these blocks."""
-    head = bytes((1, 0, len(blocks), 0))
-    entries = [bytes.fromhex(fields) + reference.to_bytes(8, "little") for _, fields, reference, _ in blocks]
+    """The file of some of these blocks, in the edition that is written."""
+    head = bytes((EDITION_WRITTEN, 0, len(blocks), 0))
+    entries = []
+    for values, fields, reference, _ in blocks:
+        in_edition_2 = (sorted(values)[0], sorted(values)[-1]) if EDITION_WRITTEN == 2 else ()
+        entries.append(bytes.fromhex(fields) + build.words((reference, *in_edition_2)))
     return head + b"".join(entries) + b"".join(body for *_, body in blocks)
 
 
 def worked_writes():
-    yield from unless(writer.write([], 4)[1] == bytes((1, 0, 0, 0)), "no numbers: not Item 1's file of no blocks")
+    none = bytes((EDITION_WRITTEN, 0, 0, 0))
+    yield from unless(writer.write([], 4)[1] == none, "no numbers: not the file of no blocks")
     for name, block in WORKED.items():
         data = by_hand([block])
         answer, found = writer.write(block[0], len(data))
@@ -107,6 +114,7 @@ def worked_writes():
 def worked_refusals():
     """Counts and outputs, with the number and the value that the call gives."""
     sevens, zeros = [7] * 1025, [0] * (257 * 1024)
+    one, all_256 = 4 + ENTRY_BYTES, 4 + 256 * ENTRY_BYTES  # the files of blocks without a body
     for values, room, expected in (
         ([], 0, (14, 0)),
         ([], 3, (14, 0)),
@@ -117,14 +125,14 @@ def worked_refusals():
         (sevens[:1023], 0, (2, 0)),
         (sevens[:1023], 9000, (2, 0)),
         (sevens[:1024], 0, (14, 0)),
-        (sevens[:1024], 19, (14, 0)),
-        (sevens[:1024], 20, (0, 20)),
-        (sevens[:1024], 8211, (0, 20)),
+        (sevens[:1024], one - 1, (14, 0)),
+        (sevens[:1024], one, (0, one)),
+        (sevens[:1024], MOST_BYTES + 3, (0, one)),
         (sevens, 0, (2, 0)),
         (sevens, 9000, (2, 0)),
         (zeros[:262143], 9000, (2, 0)),
-        (zeros[:262144], 4099, (14, 0)),
-        (zeros[:262144], 4100, (0, 4100)),
+        (zeros[:262144], all_256 - 1, (14, 0)),
+        (zeros[:262144], all_256, (0, all_256)),
         (zeros[:262145], 9000, (2, 0)),
         (zeros, 0, (2, 0)),
         (zeros, 9000, (2, 0)),
@@ -198,9 +206,13 @@ def reads_back(written):
     for name, numbers, data in taken:
         blocks = len(numbers) // 8192
         yield from unless(files.count_of(data) == blocks, f"{name}: the file has {files.count_of(data)} blocks")
-        yield from unless(len(data) <= 4 + 8208 * blocks, f"{name}: the file is longer than Item 3 has it")
+        yield from unless(files.edition_of(data) == EDITION_WRITTEN, f"{name}: the file has another edition")
+        yield from unless(len(data) <= 4 + MOST_BYTES * blocks, f"{name}: the file is longer than it may be")
     for name, values, entry, body in blocks_written(taken):
         yield from unless(files.block_values(entry, body) == list(values), f"{name}: other numbers are read")
+        if EDITION_WRITTEN == 2:
+            ends = sorted(values)[:: len(values) - 1]
+            yield from unless([entry.smallest, entry.largest] == ends, f"{name}: smallest and largest are not {ends}")
         for kind, width in preferred(entry):
             said = f"{name} has kind {entry.kind} width {entry.width}, and kind {kind} width {width} restores it"
             yield from unless(not restores(kind, width, values), said)
@@ -259,7 +271,7 @@ def what_is_asked(swept, written):
             count = len(question.a) // 8
             counts.add(count)
             if question.a in sizes:
-                words = room_words(len(question.c), sizes[question.a], 4 + 8208 * count // 1024)
+                words = room_words(len(question.c), sizes[question.a], 4 + MOST_BYTES * count // 1024)
                 rooms |= {word for word, so in words.items() if so}
     wanted = {0, 1, 1023, 1024, 1025, 2047, 2049, 3072, 262143, 262144, 262145, 263168}
     yield from unless(wanted <= counts, f"the sweep writes no {sorted(wanted - counts)} numbers")

@@ -1,18 +1,22 @@
-"""The model of the reader: document 02, Items 1 and 5, from their text alone.
+"""The model of the reader: document 02, Items 1, 5 and 9, and what Item 11 takes away, from their text alone.
 
 A column file, little-endian throughout:
 
-    edition u16 (1), number of blocks N u16 (0 to 256)
+    edition u16 (1 or 2), number of blocks N u16 (0 to 256)
     N entries of 16 bytes: kind u8, width u8, zero u16, body length u32, reference u64
+    in edition 2 of 32 bytes: these, then the smallest of the block's 1,024 values u64 and the largest u64
     the bodies, back to back, and nothing after them
 
     kind 0, packed        width 0 to 64, reference 0      128·W bytes: the packed words
     kind 1, frame         width 0 to 64, any reference    128·W bytes: the packed words
     kind 2, differences   width 0 to 64, reference 0      128 + 128·W bytes: sixteen base words, the packed words
-    kind 3, runs          width 0, reference 0            2048 + 8·n bytes: 1,024 indices u16, n values (1 to 1,024)
+    kind 3, runs          width 0, reference 0            2048 + 8·n bytes: 1,024 indices u16, n values (1 to 1,024);
+                                                          from Item 11 on in edition 1 alone
 
-The tests stand in Item 1's own order, which is not the order of their numbers: TESTS has those of the file. Before
-them stands 2, the length of the block output, and after them 12, a row or block number that is too high.
+The tests stand in Item 1's own order, which is not the order of their numbers: CONTENTS_TESTS has those that look at
+the contents and the lengths, and BODY_TESTS those that look into bodies, 13 and then 15. Each of these goes through all
+blocks before the next one begins. Before them stands 2, the length of the block output, and after them 12, a row or
+block number that is too high.
 
 By Item 5 a row lookup also says how many packed words the value's bits stand in, for blocks of kinds 0 and 1. For
 kinds 2 and 3 it gives no count, and neither does a refused call.
@@ -21,16 +25,16 @@ import functools
 import struct
 from typing import NamedTuple
 
-from . import layout
+from . import layout, switches
 
 PACKED, FRAME, DIFFERENCES, RUNS = range(4)
 KINDS = ("packed", "frame", "differences", "runs")
-EDITION = 1
 MOST_BLOCKS = 256
 HEAD = struct.Struct("<HH")
-ENTRY = struct.Struct("<BBHIQ")
+ENTRIES = {1: struct.Struct("<BBHIQ"), 2: struct.Struct("<BBHIQQQ")}  # by edition
 INDICES = struct.Struct("<1024H")
 BASE_BYTES = 8 * layout.LANES
+TOP = 2**layout.T - 1
 
 
 class Answer(NamedTuple):
@@ -47,12 +51,24 @@ class Entry(NamedTuple):
     zero: int
     length: int
     reference: int
+    smallest: int | None = None  # in edition 2
+    largest: int | None = None  # in edition 2
 
 
+class Rules(NamedTuple):
+    """What a call reads."""
+
+    editions: tuple
+    runs_in_2: bool
+
+
+READER = Rules(switches.EDITIONS, switches.RUNS_IN_EDITION_2)  # of the calls of Item 1
+BOTH = Rules((1, 2), switches.RUNS_IN_EDITION_2)  # of the calls that come with Item 9 and later
 ACCEPTED = Answer(0, 0, "the file is accepted")
 
 
-# The contents. Each of these may be asked once the bytes that it reads are known to be there.
+# The contents. Each of these may be asked once the bytes that it reads are known to be there. A file of another edition
+# is refused before its entries are looked at; for a person they are then those of edition 1.
 
 
 def edition_of(data):
@@ -64,17 +80,36 @@ def count_of(data):
     return HEAD.unpack_from(data)[1]
 
 
+def entry_form(data):
+    return ENTRIES.get(edition_of(data), ENTRIES[1])
+
+
+def entry_bytes(edition, entry):
+    """The bytes of an entry; in edition 1 it has no smallest and largest."""
+    return ENTRIES[edition].pack(*(entry if edition == 2 else entry[:5]))
+
+
 def entry_at(data, i):
-    return Entry(*ENTRY.unpack_from(data, HEAD.size + ENTRY.size * i))
+    form = entry_form(data)
+    return Entry(*form.unpack_from(data, HEAD.size + form.size * i))
 
 
+@functools.lru_cache(maxsize=50)
 def entries_of(data):
-    return [entry_at(data, i) for i in range(count_of(data))]
+    """All entries. They are kept for a while, since each test looks at them."""
+    form = entry_form(data)
+    fields = form.iter_unpack(data[HEAD.size : HEAD.size + form.size * count_of(data)])
+    return tuple(Entry(*some) for some in fields)
+
+
+def contents_length(edition, count):
+    """The bytes of the head and so many entries together."""
+    return HEAD.size + ENTRIES[edition].size * count
 
 
 def contents_size(data):
     """The bytes of the head and the entries together."""
-    return HEAD.size + ENTRY.size * count_of(data)
+    return HEAD.size + entry_form(data).size * count_of(data)
 
 
 def spans(data):
@@ -95,22 +130,23 @@ def bodies_of(data):
     return [data[start:end] for start, end in spans(data)]
 
 
-# The tests of a file. Each may rely on those before it in TESTS, and gives None where the file passes.
+# The tests of the contents. Each may rely on those before it, and gives None where the file passes.
 
 
-def head_short(data):
+def head_short(data, rules):
     if len(data) < HEAD.size:
         return Answer(8, 0, f"the file has {len(data)} bytes, and edition and number of blocks take 4")
 
 
-def head_wrong(data):
-    if edition_of(data) != EDITION:
-        return Answer(9, 0, f"the edition is {edition_of(data)}, and only {EDITION} is read")
+def head_wrong(data, rules):
+    if edition_of(data) not in rules.editions:
+        read = " and ".join(map(str, rules.editions))
+        return Answer(9, 0, f"the edition is {edition_of(data)}, and only {read} is read")
     if count_of(data) > MOST_BLOCKS:
         return Answer(9, 0, f"the file says that it has {count_of(data)} blocks, and {MOST_BLOCKS} is the most")
 
 
-def entries_short(data):
+def entries_short(data, rules):
     if len(data) < contents_size(data):
         return Answer(8, 0, f"the entries go to byte {contents_size(data)}, and the file has {len(data)} bytes")
 
@@ -122,11 +158,13 @@ def lengths_for(kind, width):
     return (128 * width + (BASE_BYTES if kind == DIFFERENCES else 0),)
 
 
-def entry_fault(entry):
+def entry_fault(entry, edition=1, rules=READER):
     """What of an entry is not as laid out, in words; None where all of it is."""
     if entry.kind > RUNS:
         return f"the kind is {entry.kind}, and there are only 0 to 3"
     name = f"kind {entry.kind} ({KINDS[entry.kind]})"
+    if entry.kind == RUNS and edition == 2 and not rules.runs_in_2:
+        return f"{name} is read in edition 1 alone"
     if entry.kind == RUNS and entry.width != 0:
         return f"the width is {entry.width}, and {name} asks for 0"
     if entry.width > layout.T:
@@ -139,24 +177,73 @@ def entry_fault(entry):
         return f"the body length is {entry.length}, and {name} asks for {asked}"
     if entry.kind != FRAME and entry.reference != 0:
         return f"the reference is {entry.reference}, and {name} asks for 0"
+    if edition == 2 and entry.smallest > entry.largest:
+        return f"the smallest is {entry.smallest}, and the largest is only {entry.largest}"
     return None
 
 
-def entry_wrong(data):
+def entry_wrong(data, rules):
     for i, entry in enumerate(entries_of(data)):
-        fault = entry_fault(entry)
+        fault = entry_fault(entry, edition_of(data), rules)
         if fault:
             return Answer(10, i, f"entry {i}: {fault}")
 
 
-def bodies_short(data):
+def bodies_short(data, rules):
     if len(data) < end_of(data):
         return Answer(8, 0, f"the bodies go to byte {end_of(data)}, and the file has {len(data)} bytes")
 
 
-def bytes_left(data):
+def bytes_left(data, rules):
     if len(data) > end_of(data):
         return Answer(11, 0, f"the last body ends at byte {end_of(data)}, and the file has {len(data)} bytes")
+
+
+CONTENTS_TESTS = (head_short, head_wrong, entries_short, entry_wrong, bodies_short, bytes_left)
+
+
+# The values of a block.
+
+
+def words_of(body):
+    return struct.unpack(f"<{len(body) // 8}Q", body)
+
+
+@functools.lru_cache(maxsize=500)
+def values_in(kind, width, reference, body):
+    if kind == RUNS:
+        return layout.decode(words_of(body[INDICES.size :]), INDICES.unpack_from(body))
+    if kind == DIFFERENCES:
+        differences = layout.unpack(width, words_of(body[BASE_BYTES:]))
+        return layout.undelta(differences, words_of(body[:BASE_BYTES]))
+    digits = layout.unpack(width, words_of(body))
+    return [(reference + digit) % 2**layout.T for digit in digits]
+
+
+def block_values(entry, body):
+    """The 1,024 values of a block that passes the tests up to 13."""
+    return values_in(entry.kind, entry.width, entry.reference, body)
+
+
+@functools.lru_cache(maxsize=3000)
+def range_in(kind, width, reference, body):
+    values = values_in(kind, width, reference, body)
+    return min(values), max(values)
+
+
+def true_range(entry, body):
+    """The smallest and the largest of a block's 1,024 values. Of a run block's values some may stand at no place; these
+    do not count."""
+    return range_in(entry.kind, entry.width, entry.reference, body)
+
+
+def values_of(data, block):
+    """The values of one block of an accepted file, which has that block."""
+    start, end = spans(data)[block]
+    return block_values(entry_at(data, block), data[start:end])
+
+
+# The tests of bodies, for the blocks that are named, rising. The contents are known to be good.
 
 
 def run_values(entry):
@@ -175,39 +262,46 @@ def index_fault(entry, body):
     return None
 
 
-def runs_wrong(data):
-    for i, (entry, body) in enumerate(zip(entries_of(data), bodies_of(data))):
-        fault = index_fault(entry, body)
-        if fault:
-            return Answer(13, i, f"block {i}: {fault}")
+def range_fault(entry, body):
+    """Which of smallest and largest is not the body's, in words; None where both are, or the edition has none."""
+    if entry.smallest is None:
+        return None
+    smallest, largest = true_range(entry, body)
+    if entry.smallest != smallest:
+        return f"the entry says that the smallest is {entry.smallest}, and in the body it is {smallest}"
+    if entry.largest != largest:
+        return f"the entry says that the largest is {entry.largest}, and in the body it is {largest}"
+    return None
 
 
-TESTS = (head_short, head_wrong, entries_short, entry_wrong, bodies_short, bytes_left, runs_wrong)
+def lowest_with(number, fault, data, blocks):
+    """The answer for the lowest of these blocks that has the fault."""
+    entries, where = entries_of(data), spans(data)
+    for i in blocks:
+        words = fault(entries[i], data[slice(*where[i])])
+        if words:
+            return Answer(number, i, f"block {i}: {words}")
 
 
-# The values of a block.
+def runs_wrong(data, blocks):
+    return lowest_with(13, index_fault, data, blocks)
 
 
-def words_of(body):
-    return struct.unpack(f"<{len(body) // 8}Q", body)
+def ranges_wrong(data, blocks):
+    return lowest_with(15, range_fault, data, blocks)
 
 
-@functools.lru_cache(maxsize=64)
-def block_values(entry, body):
-    """The 1,024 values of a block of an accepted file."""
-    if entry.kind == RUNS:
-        return layout.decode(words_of(body[INDICES.size :]), INDICES.unpack_from(body))
-    if entry.kind == DIFFERENCES:
-        differences = layout.unpack(entry.width, words_of(body[BASE_BYTES:]))
-        return layout.undelta(differences, words_of(body[:BASE_BYTES]))
-    digits = layout.unpack(entry.width, words_of(body))
-    return [(entry.reference + digit) % 2**layout.T for digit in digits]
+BODY_TESTS = (runs_wrong, ranges_wrong)
 
 
-def values_of(data, block):
-    """The values of one block of an accepted file, which has that block."""
-    start, end = spans(data)[block]
-    return block_values(entry_at(data, block), data[start:end])
+def contents_answer(data, rules):
+    """8 to 11, or None."""
+    return next(filter(None, (test(data, rules) for test in CONTENTS_TESTS)), None)
+
+
+def bodies_answer(data, blocks):
+    """13 or 15 for the blocks that are named, or None."""
+    return next(filter(None, (test(data, blocks) for test in BODY_TESTS)), None)
 
 
 def words_read(entry, place):
@@ -220,13 +314,9 @@ def words_read(entry, place):
 # The three calls. What two of them give beside the answer is None where the call is refused.
 
 
-def check(data):
+def check(data, rules=READER):
     """Item 1's check of the whole file: never 2 and never 12."""
-    for test in TESTS:
-        answer = test(data)
-        if answer:
-            return answer
-    return ACCEPTED
+    return contents_answer(data, rules) or bodies_answer(data, range(count_of(data))) or ACCEPTED
 
 
 def block_out(data, block, room):

@@ -1,162 +1,36 @@
-"""Cases that nobody thought of: files of random blocks, some of them changed by accident, and random calls.
+"""Cases that nobody thought of, of every call that a stream is to have.
 
-Two cases of ten are writes, which mixed_writes.py makes, one reads a file that the model wrote, and one is a drawer,
-which mixed_drawers.py makes.
+Two cases of ten are writes, which mixed_writes.py makes, one is a drawer, from mixed_drawers.py, one a trickle, from
+mixed_trickles.py, one a search, from mixed_searches.py, and one a rewrite, from mixed_rewrites.py. The others are
+readings, from mixed_reads.py, one of them of a file that the model wrote. Where the stream is not to have a call, a
+reading takes its place.
 
 Each case has dice of its own, made from the seed and the case's number. So case 17 of a seed is the same however many
 cases are written.
 """
-from . import build, files, mixed_drawers, mixed_writes, writer
-from .build import Dice, any_block, any_runs, column_file, with_index
-from .stream import BLOCK_OUT, CHECK, ROW_LOOKUP, Question
+from . import mixed_drawers, mixed_reads, mixed_rewrites, mixed_searches, mixed_trickles, mixed_writes
+from .build import Dice
+from .stream import DRAWERS, REWRITE, SEARCH, TRICKLES, WRITE
 
-EDGES = (0, 1, 2, 3, 63, 64, 65, 255, 256, 257, 1024, 2048, 65535, 2**31, 2**32 - 1, 2**63, 2**64 - 1)
-FIELDS = {"kind": 2**8, "width": 2**8, "zero": 2**16, "length": 2**32, "reference": 2**64}
-
-
-def some_width(dice):
-    return dice.pick((0, 0, 1, 2, 63, 64, dice.below(9), dice.below(9), dice.below(65), dice.below(65)))
-
-
-def some_values(dice):
-    """Values as a catalogue might have them: rising by small steps, small, or a few far ones among equal ones."""
-    start, steps = dice.number(), dice.bytes(1024)
-    shape = dice.below(3)
-    if shape == 0:
-        rising = [start]
-        for step in steps[1:]:
-            rising.append((rising[-1] + step) % 2**64)
-        return rising
-    if shape == 1:
-        return list(steps)
-    return [dice.number() if step < 4 else start for step in steps]
+# Of ten cases, by the number that is thrown: the calls that one can be of, and who makes it.
+OTHERS = {
+    0: ((WRITE,), mixed_writes.case),
+    1: ((WRITE,), mixed_writes.case),
+    3: (DRAWERS, mixed_drawers.case),
+    4: (TRICKLES, mixed_trickles.case),
+    5: ((SEARCH,), mixed_searches.case),
+    6: ((REWRITE,), mixed_rewrites.case),
+}
 
 
-def some_body(dice, width):
-    shape = dice.below(4)
-    if shape == 0:
-        return build.packed_bytes(width, some_values(dice))
-    if shape == 1:
-        return dice.bytes(1) * (128 * width)
-    return dice.bytes(128 * width)
-
-
-def some_block(dice):
-    kind = dice.below(4)
-    if kind == files.RUNS:
-        return any_runs(dice, dice.pick((1, 2, 3, 7, 1 + dice.below(40), 1 + dice.below(1024), 1024)))
-    width = some_width(dice)
-    return any_block(dice, kind, width, some_body(dice, width))
-
-
-def some_blocks(dice):
-    return [some_block(dice) for _ in range(dice.pick((0, 1, 1, 1, 1, 2, 2, 3, 4)))]
-
-
-# Accidents. Each takes the blocks or the bytes of a good file, and may leave it good.
-
-
-def other_field(dice, blocks):
-    i, field = dice.below(len(blocks)), dice.pick(sorted(FIELDS))
-    value = dice.pick((*EDGES, dice.number(), getattr(blocks[i].entry, field) + 1)) % FIELDS[field]
-    blocks[i] = blocks[i].but(**{field: value})
-
-
-def other_index(dice, blocks):
-    """In a run block an index that is too high by one, by a little or by much, or just not too high."""
-    of_runs = [i for i, block in enumerate(blocks) if block.entry.kind == files.RUNS and len(block.body) > 2048]
-    if of_runs:
-        i = dice.pick(of_runs)
-        n = (len(blocks[i].body) - 2048) // 8  # not by the entry, which may have had an accident before
-        index = dice.pick((n - 1, n, n + dice.below(64), 65535, dice.below(65536)))
-        blocks[i] = with_index(blocks[i], dice.below(1024), index)
-
-
-def swapped_entries(dice, blocks):
-    """Two entries change places, and the bodies do not."""
-    i, j = dice.below(len(blocks)), dice.below(len(blocks))
-    first, second = blocks[i].entry, blocks[j].entry
-    blocks[i], blocks[j] = build.Block(second, blocks[i].body), build.Block(first, blocks[j].body)
-
-
-def other_byte(dice, data):
-    near = min(len(data), dice.pick((4, 20, 100, len(data))))
-    if near:
-        data[dice.below(near)] ^= 1 + dice.below(255)
-
-
-def cut_off(dice, data):
-    anywhere, early = dice.below(len(data) + 1), dice.below(min(len(data), 70) + 1)
-    late = max(len(data) - 1 - dice.below(20), 0)
-    del data[dice.pick((anywhere, early, late)) :]
-
-
-def added(dice, data):
-    data += dice.bytes(dice.pick((1, 1, 2, 8, 16, 128)))
-
-
-def other_head(dice, data):
-    if len(data) >= files.HEAD.size:
-        edition, count = files.HEAD.unpack_from(data)
-        if dice.below(2):
-            edition = dice.pick((0, 2, 257, dice.below(65536)))
-        else:
-            count = dice.pick((count + 1, 257, dice.below(600)))
-        files.HEAD.pack_into(data, 0, edition, count % 65536)
-
-
-TO_BLOCKS = (other_field, other_field, other_index, other_index, swapped_entries)
-TO_BYTES = (other_byte, other_byte, cut_off, added, other_head)
-
-
-def some_file(dice):
-    """A file and the number of its blocks; not quite half of the files have an accident, and some of these two."""
-    blocks = some_blocks(dice)
-    accidents = dice.pick((0, 0, 0, 0, 0, 1, 1, 1, 2))
-    kinds = [dice.below(2) for _ in range(accidents)]
-    for _ in range(sum(kinds)):
-        if blocks:
-            dice.pick(TO_BLOCKS)(dice, blocks)
-    data = bytearray(column_file(blocks))
-    for _ in range(accidents - sum(kinds)):
-        dice.pick(TO_BYTES)(dice, data)
-    return bytes(data), len(blocks)
-
-
-def some_index(dice, size):
-    """A number that is mostly below the size, and sometimes at the limit or far beyond it."""
-    far = (size, size + 1, size + dice.below(2000), dice.number(), 2**64 - 1)
-    return dice.below(size) if size and dice.below(6) else dice.pick((max(size, 1) - 1, *far))
-
-
-def written_file(dice):
-    """A file as the writer lays it down, and the number of its blocks."""
-    values = mixed_writes.some_values(dice)
-    return writer.file_of(values), len(values) // 1024
-
-
-def case(seed, i):
+def case(seed, i, ops):
+    """A case of one of these calls."""
     sort = Dice("mixed sort", seed, i).below(10)
-    if sort < 2:
-        return mixed_writes.case(seed, i)
-    if sort == 3:
-        return mixed_drawers.case(seed, i)
-    return reading(seed, i, written_file if sort == 2 else some_file)
+    calls, made_by = OTHERS.get(sort, ((), None))
+    if calls and set(calls) <= set(ops):
+        return made_by(seed, i)
+    return mixed_reads.reading(seed, i, mixed_reads.written_file if sort == 2 else mixed_reads.some_file)
 
 
-def reading(seed, i, file_from):
-    """One of the reader's calls, on a file that is made from the dice."""
-    dice = Dice("mixed", seed, i)
-    data, blocks = file_from(dice)
-    op = dice.pick((CHECK, BLOCK_OUT, BLOCK_OUT, ROW_LOOKUP, ROW_LOOKUP))
-    name = f"mixed {seed} case {i}"
-    if op == CHECK:
-        return Question(op, name, data)
-    if op == ROW_LOOKUP:
-        return Question(op, name, data, index=some_index(dice, 1024 * blocks))
-    room = dice.pick((0, 1023, 1025, 1 + dice.below(2000))) if dice.below(15) == 0 else 1024
-    return Question(op, name, data, c=dice.bytes(8 * room), index=some_index(dice, blocks))
-
-
-def mixed(seed, count):
-    return (case(seed, i) for i in range(count))
+def mixed(seed, count, ops):
+    return (case(seed, i, ops) for i in range(count))

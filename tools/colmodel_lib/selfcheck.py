@@ -1,26 +1,40 @@
 """Holds the model and the cases to what can be said of them without running any of the port.
 
 Each check is a function that gives the things that are not so, in words. Numbers here are worked out by hand from
-documents 01 and 02. What is said of writes stands in check_writes.py, and what is said of drawers in check_drawers.py.
+documents 01 and 02. What is said of edition 2 stands in check_editions.py, what is said of writes in check_writes.py,
+and what is said of drawers, trickles, searches and rewrites in check_drawers.py, check_trickles.py, check_searches.py
+and check_rewrites.py.
 """
 import io
 import struct
 
-from . import build, check_drawers, check_writes, files, layout, mixed, mixed_writes, sweep
+from . import build, check_drawers, check_editions, check_rewrites, check_searches, check_trickles, check_writes, files
+from . import layout, mixed, mixed_drawers, mixed_rewrites, mixed_searches, mixed_trickles, mixed_writes, sweep
+from . import sweep_reads
+from .ask import ask_row
 from .build import Dice, column_file
 from .check_writes import unless
 from .files import DIFFERENCES, FRAME, PACKED, RUNS
-from .stream import BLOCK_OUT, CHECK, DRAWERS, FOR_PACK_BLOCKS, NO_COUNT, ROW_LOOKUP, UNPACK_BLOCKS, WRITE
-from .stream import Outcome, Question, answered, cases, record, replay
+from .sweep_reads import ENTRY_WRONG, RANGE_WRONG, RUNS_WRONG, SEVENS, SEVENS_2, WAYS
+from .switches import EDITION_WRITTEN, EDITIONS, RUNS_IN_EDITION_2
+from .stream import BLOCK_OUT, CALLS, CHECK, DRAWERS, FOR_PACK_BLOCKS, NO_COUNT, REWRITE, ROW_LOOKUP, SEARCH, TRICKLE
+from .stream import TRICKLE_FROM, TRICKLES, UNPACK_BLOCKS, WRITE, Outcome, Question, answered, cases, record, replay
 
-GIVEN = {  # The numbers that each call can give, from Items 1, 3 and 7.
-    CHECK: {0, 8, 9, 10, 11, 13},
-    BLOCK_OUT: {0, 2, 8, 9, 10, 11, 12, 13},
-    ROW_LOOKUP: {0, 8, 9, 10, 11, 12, 13},
+OF_EDITION_2 = {15} if 2 in EDITIONS else set()
+GIVEN = {  # The numbers that each call can give, from Items 1, 3, 7, 9 and 10.
+    CHECK: {0, 8, 9, 10, 11, 13} | OF_EDITION_2,
+    BLOCK_OUT: {0, 2, 8, 9, 10, 11, 12, 13} | OF_EDITION_2,
+    ROW_LOOKUP: {0, 8, 9, 10, 11, 12, 13} | OF_EDITION_2,
     WRITE: {0, 2, 14},
+    SEARCH: {0, 8, 9, 10, 11, 13, 14, 15},
+    REWRITE: {0, 8, 9, 10, 11, 13, 14, 15},
     UNPACK_BLOCKS: {0, 1, 2, 3},
     FOR_PACK_BLOCKS: {0, 1, 2, 3},
+    TRICKLE: {0, 1, 2, 16},
+    TRICKLE_FROM: {0, 2, 16},
 }
+# Numbers that the sample may leave to other calls and to the sweep, since there a block takes much room.
+LEFT_TO_OTHERS = {TRICKLE_FROM: {16}, BLOCK_OUT: {8, 9, 11} if 2 in EDITIONS else set()}
 COUNTS = {  # The counts of words that a row lookup can give in each kind of block, from Item 5.
     PACKED: {0, 1, 2},
     FRAME: {0, 1, 2},
@@ -39,14 +53,14 @@ def block_of(block):
 def worked_files():
     """Item 1's two files: what they hold, and that building them gives the same bytes."""
     sevens = build.frame(0, b"", 7)
-    yield from unless(column_file([]) == sweep.NO_BLOCKS, "the file of no blocks is not built as Item 1 has it")
-    yield from unless(column_file([sevens]) == sweep.SEVENS, "the file of sevens is not built as Item 1 has it")
-    yield from unless(files.check(sweep.NO_BLOCKS) == files.ACCEPTED, "the file of no blocks is not accepted")
-    yield from unless(files.row_lookup(sweep.NO_BLOCKS, 0)[0][:2] == (12, 0), "row 0 of no blocks is not 12")
-    yield from unless(files.check(sweep.SEVENS) == files.ACCEPTED, "the file of sevens is not accepted")
+    yield from unless(column_file([]) == sweep_reads.NO_BLOCKS, "the file of no blocks is not built as Item 1 has it")
+    yield from unless(column_file([sevens]) == SEVENS, "the file of sevens is not built as Item 1 has it")
+    yield from unless(files.check(sweep_reads.NO_BLOCKS) == files.ACCEPTED, "the file of no blocks is not accepted")
+    yield from unless(files.row_lookup(sweep_reads.NO_BLOCKS, 0)[0][:2] == (12, 0), "row 0 of no blocks is not 12")
+    yield from unless(files.check(SEVENS) == files.ACCEPTED, "the file of sevens is not accepted")
     yield from unless(block_of(sevens) == [7] * 1024, "the file of sevens has other values")
-    yield from unless(files.row_lookup(sweep.SEVENS, 1023)[1:] == (7, 0), "row 1023 of the sevens is another")
-    yield from unless(files.row_lookup(sweep.SEVENS, 1024)[0][:2] == (12, 0), "row 1024 of the sevens is not 12")
+    yield from unless(files.row_lookup(SEVENS, 1023)[1:] == (7, 0), "row 1023 of the sevens is another")
+    yield from unless(files.row_lookup(SEVENS, 1024)[0][:2] == (12, 0), "row 1024 of the sevens is not 12")
 
 
 def lane_body(width, lane, number):
@@ -170,37 +184,42 @@ def counts_by_kind():
         ("a row that is not there", build.packed(3, body), 1024, no_count),
         ("a bad entry", build.packed(3, body).but(zero=1), 672, no_count),
     ):
-        found = answered(sweep.ask_row(name, column_file([block]), row)).reference
+        found = answered(ask_row(name, column_file([block]), row)).reference
         yield from unless(found == expected, f"{name}, row {row}: the count is {found}, and not {expected}")
 
 
 def expected_of(steps, way):
-    """The number and the place that the first of these steps gives, from Item 1's text."""
-    place = {sweep.ENTRY_WRONG: sweep.WAYS[way]["entry"], sweep.RUNS_WRONG: sweep.WAYS[way]["block"]}
+    """The number and the place that the first of these steps gives, from the text of Items 1 and 9."""
+    named = {ENTRY_WRONG: "entry", RUNS_WRONG: "block", RANGE_WRONG: "range"}
+    place = {step: WAYS[way].get(name) for step, name in named.items()}
     return (int(steps[0].split()[0]), place.get(steps[0], 0)) if steps else (0, 0)
 
 
 def every_set_of_steps():
     for op in OF_READER:
-        for way in range(len(sweep.WAYS)):
-            yield from ((op, way, steps) for steps in sweep.sets_of_steps(op, way))
+        for way in sweep_reads.ways():
+            sets = sweep_reads.sets_of_steps(sweep_reads.steps_of(op), way)
+            yield from ((op, way, steps) for steps in sets)
 
 
 def order_of_refusals(asked):
     """Where several steps fail, the first in Item 1's order answers; and without that one, the next."""
     pairs = set()
     for op, way, steps in every_set_of_steps():
-        question = sweep.faulty_question(op, steps, way)
+        question = sweep_reads.faulty_question(op, steps, way)
         name = f"call {op}: {question.name}"
         yield from unless(question in asked, f"{name}: the sweep does not ask this")
         got = answered(question)[:2]
         yield from unless(got == expected_of(steps, way), f"{name}: the model gives {got}")
-        rest = answered(sweep.faulty_question(op, steps[1:], way))[:2]
+        rest = answered(sweep_reads.faulty_question(op, steps[1:], way))[:2]
         yield from unless(rest == expected_of(steps[1:], way), f"{name}: without the first fault it is {rest}")
         if len(steps) == 2:
             pairs.add(tuple(int(step.split()[0]) for step in steps))
     wanted = {(2, 8), (2, 9), (2, 10), (2, 11), (2, 13), (2, 12), (8, 9), (9, 8), (8, 10), (10, 8), (8, 13), (8, 12)}
     wanted |= {(9, 10), (9, 11), (9, 13), (9, 12), (10, 11), (10, 13), (10, 12), (11, 13), (11, 12), (13, 12)}
+    if 2 in EDITIONS:
+        wanted |= {(2, 15), (8, 15), (9, 15), (10, 15), (11, 15), (15, 12)}
+        wanted |= {(13, 15)} if RUNS_IN_EDITION_2 else set()
     yield from unless(pairs == wanted, f"the pairs of refusals are {sorted(pairs)}")
 
 
@@ -214,7 +233,7 @@ def read_at(question):
 def what_is_reached(name, questions, by_rows=False):
     """Every number that a call can give, and no other; every kind is read and written; every count that a kind can
     give is given; outputs change and stay. Blocks come out at the widths at the edges; with by_rows, kinds 0 and 1 may
-    have a row lookup there in the place of a block out."""
+    have a row lookup there in the place of a block out, and from Item 9 on every kind may."""
     reached = {op: set() for op in GIVEN}
     kinds, written, counts = set(), set(), {kind: set() for kind in COUNTS}
     for question in questions:
@@ -226,31 +245,37 @@ def what_is_reached(name, questions, by_rows=False):
         if question.op == ROW_LOOKUP and not outcome.number:
             kind, _ = read_at(question)
             counts[kind].add(outcome.reference)
-            if by_rows and kind in (PACKED, FRAME):
+            if by_rows and (kind in (PACKED, FRAME) or 2 in EDITIONS):
                 kinds.add(read_at(question))
         if question.op == WRITE and not outcome.number:
             written |= {entry.kind for entry in files.entries_of(outcome.c)}
             yield from unless(outcome.c != question.c, f"{name}, {question.name}: the output would not change")
         if outcome.number:
             yield from unless(outcome.c == question.c, f"{name}, {question.name}: a refusal changes the output")
-            yield from unless(outcome.value == 0, f"{name}, {question.name}: a refusal gives a value")
+            no_value = outcome.value == 0 or question.op in TRICKLES
+            yield from unless(no_value, f"{name}, {question.name}: a refusal gives a value")
         if outcome.number or question.op != ROW_LOOKUP:
             none = NO_COUNT if question.op == ROW_LOOKUP else 0
             yield from unless(outcome.reference == none, f"{name}, {question.name}: the reference is another")
+    for op in LEFT_TO_OTHERS if name == "sample" else ():
+        reached[op] |= LEFT_TO_OTHERS[op]
     yield from unless(reached == GIVEN, f"{name}: the numbers given are {reached}")
     yield from unless(counts == COUNTS, f"{name}: the counts of words by kind are {counts}")
     yield from unless(written == {PACKED, FRAME, DIFFERENCES}, f"{name}: the kinds written are {written}")
-    edges = {(kind, width) for kind in (PACKED, FRAME, DIFFERENCES) for width in sweep.EDGE_WIDTHS}
+    edges = {(kind, width) for kind in (PACKED, FRAME, DIFFERENCES) for width in sweep_reads.EDGE_WIDTHS}
     edges |= {(RUNS, 2048 + 8), (RUNS, 2048 + 8 * 1024)}
     yield from unless(edges <= kinds, f"{name}: no block out of kind and width {sorted(edges - kinds)}")
 
 
 def bytes_to_spoil(question, outcome):
     """Places in the output: its first and last byte. Of a file that is written also one in each field of the contents,
-    the first of the bodies, the file's last, and the one behind it. Of a drawer that is done the ends of each block."""
+    the first of the bodies, the file's last, and the one behind it. Of a drawer that is done the ends of each block,
+    and of a search the ends of its rows."""
     at = {0, len(outcome.c) - 1}
-    if question.op == WRITE and not outcome.number:
-        at |= {2, 4, 5, 6, 8, 12, 20, outcome.value - 1, outcome.value}
+    if question.op in (WRITE, REWRITE) and not outcome.number:
+        at |= {2, 4, 5, 6, 8, 12, 20, 28, 36, outcome.value - 1, outcome.value}
+    if question.op == SEARCH and not outcome.number:
+        at |= {8 * outcome.value - 1, 8 * outcome.value}
     if question.op in DRAWERS and not outcome.number and question.index:
         size = len(outcome.c) // question.index
         at |= {size * block + end for block in range(question.index) for end in (-1, 0)}
@@ -271,7 +296,7 @@ def spoiled(questions):
         if question.op == ROW_LOOKUP:
             yield question, outcome._replace(value=(outcome.value + 2**63) % 2**64)
             yield from ((question, outcome._replace(reference=count)) for count in wrong_counts(outcome.reference))
-        if question.op == WRITE or question.op in DRAWERS:
+        if question.op in (WRITE, SEARCH, REWRITE, *DRAWERS, *TRICKLES):
             yield question, outcome._replace(value=outcome.value + 1)
         for at in bytes_to_spoil(question, outcome):
             c = bytearray(outcome.c)
@@ -293,15 +318,16 @@ def streams(questions):
     yield from unless(said[:2] == all_differ, f"the replay of spoiled cases says {said}")
     said = replay(io.BytesIO(whole[:-1]))
     yield from unless(said == [f"bad stream at {len(back) - 1}"], f"the replay of a cut stream says {said}")
-    head = struct.pack("<BBHB3xQQQQ4I", ROW_LOOKUP, 64, 0, 0, 0, 7, 0, 1023, len(sweep.SEVENS), 0, 0, 0)
-    question = sweep.ask_row("the sevens", sweep.SEVENS, 1023)
-    yield from unless(record(question, Outcome(0, 0, b"", 7)) == head + sweep.SEVENS, "a record has another form")
-    head = struct.pack("<BBHB3xQQQQ4I", ROW_LOOKUP, 64, 0, 12, 0, 0, 2**64 - 1, 1024, len(sweep.SEVENS), 0, 0, 0)
-    question = sweep.ask_row("the sevens", sweep.SEVENS, 1024)
-    same = record(question, answered(question)) == head + sweep.SEVENS
+    head = struct.pack("<BBHB3xQQQQ4I", ROW_LOOKUP, 64, 0, 0, 0, 7, 0, 1023, len(SEVENS), 0, 0, 0)
+    question = ask_row("the sevens", SEVENS, 1023)
+    yield from unless(record(question, Outcome(0, 0, b"", 7)) == head + SEVENS, "a record has another form")
+    head = struct.pack("<BBHB3xQQQQ4I", ROW_LOOKUP, 64, 0, 12, 0, 0, 2**64 - 1, 1024, len(SEVENS), 0, 0, 0)
+    question = ask_row("the sevens", SEVENS, 1024)
+    same = record(question, answered(question)) == head + SEVENS
     yield from unless(same, "a record of a refused row lookup has another form")
-    head = struct.pack("<BBHB3xQQQQ4I", WRITE, 64, 0, 0, 0, 20, 0, 0, 1024, 0, 23, 0)
-    numbers, before, after = struct.pack("<1024Q", *[7] * 1024), b"\xa5" * 23, sweep.SEVENS + b"\xa5" * 3
+    length, written = {1: (20, SEVENS), 2: (36, SEVENS_2)}[EDITION_WRITTEN]
+    head = struct.pack("<BBHB3xQQQQ4I", WRITE, 64, 0, 0, 0, length, 0, 0, 1024, 0, 39, 0)
+    numbers, before, after = struct.pack("<1024Q", *[7] * 1024), b"\xa5" * 39, written.ljust(39, b"\xa5")
     question = Question(WRITE, "the sevens", numbers, c=before)
     same = record(question, answered(question)) == head + numbers + before + after
     yield from unless(same, "a record of a write has another form")
@@ -311,14 +337,57 @@ def streams(questions):
     question = Question(FOR_PACK_BLOCKS, "a drawer", taken, c=before, index=2, t=16, width=5, reference=40000)
     same = record(question, answered(question)) == head + taken + before + before
     yield from unless(same, "a record of a drawer has another form")
-    yield from unless(len(whole) < 1_000_000, f"the sample has {len(whole)} bytes, and is to be below a megabyte")
+    # Of two blocks of sevens the second is to be listed, and it is not, since its entry says 8.
+    head = struct.pack("<BBHB3xQQQQ4I", SEARCH, 64, 0, 15, 1, 0, 0, 0, 68, 2, 3, 0)
+    blocks = [build.frame(0, b"", 7), build.frame(0, b"", 7).but(largest=8)]
+    data, bounds = column_file(blocks, 2), struct.pack("<2Q", 8, 9)
+    question = Question(SEARCH, "a search", data, bounds, b"\xa5" * 24)
+    same = record(question, answered(question)) == head + data + bounds + b"\xa5" * 48
+    yield from unless(same, "a record of a search has another form")
+    # Sevens of edition 1 become sevens of edition 2, and two bytes of the output are left.
+    head = struct.pack("<BBHB3xQQQQ4I", REWRITE, 64, 0, 0, 0, 36, 0, 0, 20, 0, 38, 0)
+    question = Question(REWRITE, "a rewrite", SEVENS, c=b"\xa5" * 38)
+    same = record(question, answered(question)) == head + SEVENS + b"\xa5" * 38 + SEVENS_2 + b"\xa5" * 2
+    yield from unless(same, "a record of a rewrite has another form")
+    # A state made by hand of width 2 with 250 bytes held takes 6 of 9 bytes, and the output is too short.
+    head = struct.pack("<BBHB3xQQQQ4I", TRICKLE_FROM, 64, 2, 2, 0, 6, 0, 250, 8201, 3, 1, 0)
+    taken, lengths = bytes(8192) + b"abcdefghi", struct.pack("<3Q", 4, 0, 5)
+    question = Question(TRICKLE_FROM, "a state", taken, lengths, b"\xa5" * 8, 250, width=2)
+    same = record(question, answered(question)) == head + taken + lengths + b"\xa5" * 16
+    yield from unless(same, "a record of a trickle has another form")
+    for other in ({"b": lengths[:16]}, {"a": taken[:8191], "b": b""}, {"reference": 2}):
+        wrong = record(question._replace(**other), Outcome(0, 0, question.c))
+        said = replay(io.BytesIO(wrong))
+        yield from unless(said == ["bad stream at 0"], f"the replay of a trickle that cannot be says {said}")
+
+
+def size_of_sample(questions):
+    """The sample of the calls that there are by then is below a megabyte."""
+    later = {SEARCH, REWRITE} if 2 not in EDITIONS else {REWRITE} if RUNS_IN_EDITION_2 else set()
+    size = sum(len(record(question, answered(question))) for question in questions if question.op not in later)
+    yield from unless(size < 1_000_000, f"the sample has {size} bytes, and is to be below a megabyte")
+
+
+def some_mixed():
+    """Random cases: readings and writes as the stream of mixed cases has them, and then some of every other sort."""
+    readings = mixed.mixed(1, 1000, (*OF_READER, WRITE))
+    others = [mixed_drawers.drawers_of(1, 200), mixed_trickles.trickles(1, 100), mixed_searches.searches(1, 300)]
+    others += [mixed_rewrites.rewrites(1, 200)]
+    return [*readings, *(question for sort in others for question in sort)]
+
+
+def mixed_has_all():
+    """The stream of mixed cases has every call that it is to have, and no other."""
+    for ops in (CALLS, OF_READER, (*OF_READER, WRITE, SEARCH)):
+        found = {question.op for question in mixed.mixed(1, 150, ops)}
+        yield from unless(found == set(ops), f"mixed cases of {sorted(ops)} have the calls {sorted(found)}")
 
 
 def failures():
     """All that is not so."""
     swept = list(sweep.sweep(1))
     sample = list(sweep.sample())
-    some = list(mixed.mixed(1, 800))
+    some = some_mixed()
     yield from worked_files()
     yield from packed_cases()
     yield from frame_cases()
@@ -331,7 +400,13 @@ def failures():
     yield from what_is_reached("sweep", swept)
     yield from what_is_reached("sample", sample, by_rows=True)
     yield from what_is_reached("mixed", some)
+    yield from check_editions.failures(swept, sample)
     yield from check_writes.failures(swept, sample)
     yield from check_drawers.failures(swept, sample, some)
+    yield from check_trickles.failures(swept, sample, some)
+    yield from check_searches.failures(swept, sample, some)
+    yield from check_rewrites.failures(swept, sample, some)
     yield from check_writes.reads_back(check_writes.all_written(mixed_writes.writes(1, 100)))
+    yield from mixed_has_all()
     yield from streams(sample)
+    yield from size_of_sample(sample)

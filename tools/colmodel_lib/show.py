@@ -1,10 +1,12 @@
 """Shows a column file to a person: its contents as far as they are there, and the answer with what is wrong.
 
 Of a write it shows the three candidates of each block, and the file that the model writes. Of a drawer it shows the
-blocks that the model gives.
+blocks that the model gives, of a trickle what every chunk adds, of a search the blocks that it opens, and of a rewrite
+the old file, the candidates and the new file.
 """
-from . import drawers, files, writer
-from .stream import DRAWERS, FOR_PACK_BLOCKS, NO_COUNT, ROW_LOOKUP, UNPACK_BLOCKS, WRITE
+from . import drawers, files, rewrite, search, trickle, writer
+from .stream import BY_HAND, DRAWERS, FOR_PACK_BLOCKS, NO_COUNT, REWRITE, ROW_LOOKUP, SEARCH, TRICKLE, TRICKLE_FROM
+from .stream import TRICKLES, UNPACK_BLOCKS, WRITE, fed_in
 
 
 def plural(n, word):
@@ -23,7 +25,8 @@ def entry_words(entry):
     kind = files.KINDS[entry.kind] if entry.kind <= files.RUNS else "no such kind"
     zero = f", zero field {entry.zero}" if entry.zero else ""
     n = f" ({plural(files.run_values(entry), 'value')})" if entry.kind == files.RUNS and entry.length > 2048 else ""
-    fields = f"width {entry.width}{zero}, length {entry.length}{n}, reference {entry.reference}"
+    ends = "" if entry.smallest is None else f", smallest {entry.smallest}, largest {entry.largest}"
+    fields = f"width {entry.width}{zero}, length {entry.length}{n}, reference {entry.reference}{ends}"
     return f"kind {entry.kind} ({kind}), {fields}"
 
 
@@ -35,22 +38,32 @@ def body_words(data, start, end):
     return f"body from byte {start} to {end}{there}"
 
 
+def body_fault(data, entry, start):
+    """What is wrong with a body, or with the smallest and the largest that its entry says, in words; None where it is
+    good or not all there."""
+    body = data[start : start + entry.length]
+    if len(body) < entry.length:
+        return None
+    return files.index_fault(entry, body) or files.range_fault(entry, body)
+
+
 def entry_lines(data):
     """A line for each entry that is there, one more where something is wrong in it, and one for a cut entry."""
     if len(data) < files.HEAD.size:
         return
     count = files.count_of(data)
-    whole, rest = divmod(len(data) - files.HEAD.size, files.ENTRY.size)
+    size = files.entry_form(data).size
+    whole, rest = divmod(len(data) - files.HEAD.size, size)
     start = files.contents_size(data)
     for i in range(min(count, whole)):
         entry = files.entry_at(data, i)
         yield f"entry {i}: {entry_words(entry)}; {body_words(data, start, start + entry.length)}"
-        fault = files.entry_fault(entry)
+        fault = files.entry_fault(entry, files.edition_of(data)) or body_fault(data, entry, start)
         if fault:
             yield f"  WRONG: {fault}"
         start += entry.length
     if whole < count:
-        yield f"entry {whole} of {count}: cut short, {rest} of its {files.ENTRY.size} bytes are there"
+        yield f"entry {whole} of {count}: cut short, {rest} of its {size} bytes are there"
 
 
 def value_lines(data):
@@ -65,10 +78,15 @@ def answer_line(answer):
     return f"answer: number {answer.number}, place {answer.place}: {answer.why}"
 
 
-def lines(data):
+def contents_lines(data):
+    """What a file has in front of its bodies, and what is wrong in it."""
     yield plural(len(data), "byte")
     yield from head_lines(data)
     yield from entry_lines(data)
+
+
+def lines(data):
+    yield from contents_lines(data)
     answer = files.check(data)
     if not answer.number:
         yield from value_lines(data)
@@ -154,10 +172,79 @@ def drawer_difference(question, expected, answered):
             return
 
 
+def search_lines(question):
+    """What the model does with a search: the file, the blocks that are opened, the first rows, and the answer."""
+    low, high = files.words_of(question.b)
+    yield from contents_lines(question.a)
+    answer, rows = search.search(question.a, low, high, len(question.c) // 8)
+    if answer.number not in (8, 9, 10, 11):
+        blocks = search.opened(question.a, low, high)
+        yield f"{low} to {high}: {plural(len(blocks), 'block')} opened {' '.join(map(str, blocks))}".rstrip()
+    if rows is not None:
+        yield f"{plural(len(rows), 'row')} {' '.join(map(str, rows[:8]))}{' ...' if len(rows) > 8 else ''}".rstrip()
+    yield answer_line(answer)
+
+
+def rewrite_lines(question):
+    """What the model does with a rewrite: the old file, and where it is taken the candidates and the new one."""
+    yield from contents_lines(question.a)
+    answer, new = rewrite.rewrite(question.a, len(question.c))
+    if answer.number in (0, 14):
+        yield from candidate_lines(rewrite.all_values(question.a))
+    if new is not None:
+        yield from contents_lines(new)
+    yield answer_line(answer)
+
+
+def state_of(question):
+    """The state that a trickle begins with, and where it comes from, in words."""
+    answer, state = trickle.start(question.width)
+    if question.op == TRICKLE or question.reference != BY_HAND:
+        return state, "of a refused start" if answer.number else "of the start"
+    state = trickle.handed_in(question.width, question.index, question.a[: trickle.ROOM])
+    too_much = (question.width, question.index) != (state.width, len(state.held))
+    return state, "made by hand, which counts as that of width 0" if too_much else "made by hand"
+
+
+def trickle_lines(question):
+    """What the model does with a trickle: the state, how many bytes it takes of each of the first chunks, and the
+    answer."""
+    if question.op == TRICKLE and trickle.start(question.width)[0].number:
+        yield answer_line(trickle.start(question.width)[0])
+        return
+    state, whence = state_of(question)
+    yield f"state {whence}: width {state.width}, {plural(len(state.held), 'byte')} held"
+    for i, chunk in enumerate(trickle.chunks_of(fed_in(question), files.words_of(question.b))):
+        taken, state = trickle.feed(state, chunk)
+        if i < 20:
+            yield f"chunk {i} of {plural(len(chunk), 'byte')}: {taken} taken, {len(state.held)} held"
+        elif i == 20:
+            yield "..."
+    answer, values = trickle.ask(state, len(question.c) // 8)
+    if values:
+        yield f"values: first {' '.join(map(str, values[:4]))} ..."
+    yield answer_line(answer)
+
+
+def trickle_words(question):
+    """What goes into a trickle."""
+    by_hand = question.op == TRICKLE_FROM and question.reference == BY_HAND
+    state = f"{plural(question.index, 'byte')} held, " if by_hand else ""
+    fed = f"{plural(len(fed_in(question)), 'byte')} in {plural(len(question.b) // 8, 'chunk')}"
+    return f"width {question.width}, {state}{fed}, output of {plural(len(question.c) // 8, 'place')}"
+
+
 def given_words(question):
     """What goes into a call."""
     if question.op == WRITE:
         return f"{plural(len(question.a) // 8, 'number')}, output of {plural(len(question.c), 'byte')}"
+    if question.op in TRICKLES:
+        return trickle_words(question)
+    if question.op == REWRITE:
+        return f"{plural(len(question.a), 'byte')}, output of {plural(len(question.c), 'byte')}"
+    if question.op == SEARCH:
+        low, high = files.words_of(question.b)
+        return f"from {low} to {high}, room for {plural(len(question.c) // 8, 'row')}"
     if question.op not in DRAWERS:
         return f"index {question.index}, output of {plural(len(question.c) // 8, 'place')}"
     framed = f", reference {question.reference}" if question.op == FOR_PACK_BLOCKS else ""
@@ -168,7 +255,7 @@ def given_words(question):
 
 
 def case_lines(i, question, expected, answered):
-    """A case of a stream, what is expected of it, what the model gives, and its file or its blocks."""
+    """A case of a stream, what is expected of it, what the model gives, and its file, its blocks or its chunks."""
     yield f"case {i}: call {question.op}, {given_words(question)}"
     yield f"expected: {outcome_words(question, expected)}"
     if answered == expected:
@@ -179,6 +266,12 @@ def case_lines(i, question, expected, answered):
     if question.op in DRAWERS:
         yield from drawer_difference(question, expected, answered)
         yield from drawer_lines(question, answered)
+    elif question.op in TRICKLES:
+        yield from trickle_lines(question)
+    elif question.op == SEARCH:
+        yield from search_lines(question)
+    elif question.op == REWRITE:
+        yield from rewrite_lines(question)
     elif question.op == WRITE:
         yield from write_lines(files.words_of(question.a), len(question.c))
     else:

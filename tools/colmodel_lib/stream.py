@@ -3,18 +3,33 @@
 A question is what goes into a call. An outcome is all that a call gives and leaves. CALLS has the model's function for
 each op, and ELEMENTS the bytes of an element of a, b and c, so a later call needs a line in each. The calls on drawers
 have elements of T bits; the others have no size, and T is 64 there.
+
+docs/CASES.md does not say what a search with other than two bounds is, and neither a trickle whose chunk lengths do not
+add up to the bytes that are fed, or whose state made by hand lacks a part of its room, or whose reference is neither 0
+nor 1. No such case is written here, and one that is read makes a bad stream.
 """
 import struct
 from typing import NamedTuple
 
-from . import drawers, files, writer
+from . import drawers, files, rewrite, search, trickle, writer
 
 HEAD = struct.Struct("<BBHB3xQQQQ4I")
-CHECK, BLOCK_OUT, ROW_LOOKUP, WRITE = 16, 17, 18, 19
+CHECK, BLOCK_OUT, ROW_LOOKUP, WRITE, SEARCH, REWRITE = 16, 17, 18, 19, 20, 21
 UNPACK_BLOCKS, FOR_PACK_BLOCKS = DRAWERS = 24, 25
-ELEMENTS = {CHECK: (1, 1, 8), BLOCK_OUT: (1, 1, 8), ROW_LOOKUP: (1, 1, 8), WRITE: (8, 1, 1)}
+TRICKLE, TRICKLE_FROM = TRICKLES = 26, 30
+ELEMENTS = {
+    CHECK: (1, 1, 8),
+    BLOCK_OUT: (1, 1, 8),
+    ROW_LOOKUP: (1, 1, 8),
+    WRITE: (8, 1, 1),
+    SEARCH: (1, 8, 8),
+    REWRITE: (1, 1, 1),
+    TRICKLE: (1, 8, 8),
+    TRICKLE_FROM: (1, 8, 8),
+}
 MOST_BYTES = 2_200_000  # of one buffer in a stream
 NO_COUNT = 2**64 - 1  # in the reference of a row lookup that says no count of words
+BY_HAND, STARTED = 0, 1  # in the reference of call 30: where its state comes from
 
 
 class BadStream(Exception):
@@ -68,6 +83,18 @@ def to_write(q):
     return refused(answer, q) if answer.number else Outcome(0, 0, data + q.c[len(data) :], len(data))
 
 
+def to_search(q):
+    answer, rows = search.search(q.a, *files.words_of(q.b), len(q.c) // 8)
+    if answer.number:
+        return refused(answer, q)
+    return Outcome(0, 0, struct.pack(f"<{len(rows)}Q", *rows) + q.c[8 * len(rows) :], len(rows))
+
+
+def to_rewrite(q):
+    answer, data = rewrite.rewrite(q.a, len(q.c))
+    return refused(answer, q) if answer.number else Outcome(0, 0, data + q.c[len(data) :], len(data))
+
+
 def to_unpack_blocks(q):
     answer, values = drawers.unpack_blocks(q.t, q.width, q.index, q.a, len(q.c) * 8 // q.t)
     return refused(answer, q) if answer.number else Outcome(0, 0, values)
@@ -78,13 +105,31 @@ def to_for_pack_blocks(q):
     return refused(answer, q) if answer.number else Outcome(0, 0, packed)
 
 
+def of_trickle(q, answer, values, taken):
+    """The outcome of a trickle. A refused question still says how many bytes were taken."""
+    return Outcome(answer.number, answer.place, q.c if answer.number else struct.pack("<1024Q", *values), taken)
+
+
+def to_trickle(q):
+    return of_trickle(q, *trickle.started_and_asked(q.width, q.a, files.words_of(q.b), len(q.c) // 8))
+
+
+def to_trickle_from(q):
+    state = q.width, q.index, q.reference == STARTED
+    return of_trickle(q, *trickle.from_a_state(*state, q.a, files.words_of(q.b), len(q.c) // 8))
+
+
 CALLS = {
     CHECK: to_check,
     BLOCK_OUT: to_block_out,
     ROW_LOOKUP: to_row_lookup,
     WRITE: to_write,
+    SEARCH: to_search,
+    REWRITE: to_rewrite,
     UNPACK_BLOCKS: to_unpack_blocks,
     FOR_PACK_BLOCKS: to_for_pack_blocks,
+    TRICKLE: to_trickle,
+    TRICKLE_FROM: to_trickle_from,
 }
 
 
@@ -100,7 +145,31 @@ def elements(op, t):
 
 def takes_reference(op):
     """Does the call take its reference? In every other one the reference is expected."""
-    return op == FOR_PACK_BLOCKS
+    return op in (FOR_PACK_BLOCKS, TRICKLE_FROM)
+
+
+def search_fault(q):
+    """What of a search there cannot be, in words; None where all of it can."""
+    return None if len(q.b) == 16 else f"a search has {len(q.b) // 8} bounds, and not two"
+
+
+def fed_in(q):
+    """The bytes that a trickle feeds."""
+    return q.a[trickle.ROOM :] if q.op == TRICKLE_FROM and q.reference == BY_HAND else q.a
+
+
+def trickle_fault(q):
+    """What of a trickle there cannot be, in words; None where all of it can."""
+    if q.op == TRICKLE_FROM and q.reference not in (BY_HAND, STARTED):
+        return f"a state comes from {q.reference}, and there are only {BY_HAND} and {STARTED}"
+    if q.op == TRICKLE_FROM and q.reference == BY_HAND and len(q.a) < trickle.ROOM:
+        return f"a state made by hand has {len(q.a)} bytes of room, and not {trickle.ROOM}"
+    if sum(files.words_of(q.b)) != len(fed_in(q)):
+        return f"the chunks have {sum(files.words_of(q.b))} bytes, and {len(fed_in(q))} are fed"
+    return None
+
+
+FAULTS = {SEARCH: search_fault, TRICKLE: trickle_fault, TRICKLE_FROM: trickle_fault}
 
 
 def answered(question):
@@ -135,6 +204,9 @@ def cases(stream):
             raise BadStream("a record's buffers are cut short")
         given, expected = (reference, 0) if takes_reference(op) else (0, reference)
         question = Question(op, "", a, b, c, index, t, width, given)
+        fault = FAULTS[op](question) if op in FAULTS else None
+        if fault:
+            raise BadStream(fault)
         yield question, Outcome(number, place, c_exit, value, expected)
 
 

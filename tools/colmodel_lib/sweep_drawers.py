@@ -245,9 +245,10 @@ SECTIONS = (
 
 
 def small_done(dice, op, t):
-    """Width 0, a width that splits words, and width T; the smallest elements also have widths 1 and T - 1."""
-    wanted = ((0, 2), (1, 3), (3, 2), (7, 1), (8, 1)) if t == 8 else ((0, 1), (3, 2), (t, 1))
-    for width, blocks in wanted:
+    """A width that splits words, with two blocks where they do not take too much room; the smaller elements also have
+    widths 0 and T, and the smallest have widths 1 and T - 1."""
+    wanted = {8: ((0, 2), (1, 3), (3, 2), (7, 1), (8, 1)), 16: ((0, 1), (3, 2), (16, 1)), 32: ((3, 2),)}
+    for width, blocks in wanted.get(t, ((3, 1 if op == UNPACK_BLOCKS else 2),)):
         yield ask_fitting(dice, op, "a width", t, width, blocks)
 
 

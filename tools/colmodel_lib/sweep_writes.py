@@ -1,12 +1,14 @@
 """The deliberate cases of Item 3: every kind and width that can be chosen, every order of the three lengths, an outlier
-at every class of place, and the edges of counts and outputs.
+at every class of place, and the edges of counts and outputs. With Item 9 what is written has another edition, and so
+other lengths.
 
 Each section is a function that gives questions, as in sweep.py. Every file that the model writes here goes back into
 the three calls of the reader.
 """
-from . import shapes, writer
+from . import files, shapes, writer
 from .ask import ask_all, ask_block, ask_check, ask_row, ask_to_fit, ask_write
 from .shapes import TOP, along_rows, by_place
+from .switches import EDITION_WRITTEN
 
 FEW_WIDTHS = (0, 1, 2, 3, 4, 8, 31, 32, 33, 61, 62, 63, 64)
 
@@ -141,11 +143,17 @@ def few_blocks(dice):
                 yield from written(dice, name, kinds[first] + kinds[second] + kinds[third])
 
 
+def contents_of(count):
+    """The bytes in front of the bodies, of so many blocks."""
+    return files.contents_length(EDITION_WRITTEN, count)
+
+
 def rooms(values):
     """Lengths of the output: too short by one and by much, enough, and between the file's length and the bound."""
     size, bound = len(writer.file_of(values)), writer.bound(values)
-    near = {size + d for d in (-128, -17, -16, -8, -1, 0, 1, 2, 8, 16, 128, 1000)}
-    return sorted(n for n in near | {0, 1, 3, 4, 5, 19, 20, 21, bound - 1, bound, bound + 1, bound + 100} if n >= 0)
+    near = {size + d for d in (-128, -33, -32, -17, -16, -8, -1, 0, 1, 2, 8, 16, 128, 1000)}
+    near |= {contents_of(1) + d for d in (-1, 0, 1)}
+    return sorted(n for n in near | {0, 1, 3, 4, 5, bound - 1, bound, bound + 1, bound + 100} if n >= 0)
 
 
 def write_outputs(dice):
@@ -179,7 +187,7 @@ def many_blocks(dice):
     yield ask_to_fit(dice, "256 short blocks", values, 1)
     yield ask_to_fit(dice, "256 short blocks", values, -1)
     yield from read_back(dice, "256 short blocks", values, (0, 1, 127, 128, 255))
-    for count, room in ((262143, 4 + 16 * 256), (262145, 0), (257 * 1024, 4 + 16 * 257)):
+    for count, room in ((262143, contents_of(256)), (262145, 0), (257 * 1024, contents_of(257))):
         yield ask_write(dice, "zeros at the limit", [0] * count, room)
     wide = [shapes.thrown(dice, 0, TOP) for _ in range(7)]
     values = [number for i in range(256) for number in wide[i % 7]]

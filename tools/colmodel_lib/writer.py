@@ -1,4 +1,4 @@
-"""The model of the writer: document 02, Item 3, from its text alone.
+"""The model of the writer: document 02, Items 3 and 9, from their text alone.
 
 A block of 1,024 numbers can be laid down in three ways. Each is a candidate, at the least width that restores it:
 
@@ -11,6 +11,9 @@ holds all of it: a digit that has lost something is another number, and along a 
 wrong, since the one before it was right. So the least width that restores a block is the least that holds what is
 packed. The selfcheck does not rely on this: it packs at one bit less and reads the block back.
 
+In edition 2 the entry also has the smallest and the largest of the block's numbers. A body has at most 8,192 bytes, so
+with its entry a block takes at most 8,208 in edition 1 and 8,224 in edition 2.
+
 The refusals of a write stand in Item 3's order: 2, the count of the numbers, then 14, an output that is too short.
 """
 import functools
@@ -18,6 +21,7 @@ from typing import NamedTuple
 
 from . import build, files, layout
 from .files import DIFFERENCES, FRAME, PACKED, Answer
+from .switches import EDITION_WRITTEN
 
 WRITTEN = Answer(0, 0, "the file is written")
 
@@ -77,10 +81,22 @@ def laid_down(one):
     return build.block(one.kind, one.width, build.words(one.base) + body, one.reference)
 
 
+def range_of(values):
+    """The smallest and the largest."""
+    return min(values), max(values)
+
+
 @functools.lru_cache(maxsize=2000)
 def block_for(numbers):
     """The block that is written for 1,024 numbers. It is kept, so they come as their bytes, which take less room."""
-    return laid_down(chosen(candidates(files.words_of(numbers))))
+    values = files.words_of(numbers)
+    smallest, largest = range_of(values)
+    return laid_down(chosen(candidates(values))).but(smallest=smallest, largest=largest)
+
+
+def block_of(values):
+    """The same, for the numbers themselves."""
+    return block_for(build.words(values))
 
 
 def blocks_of(values):
@@ -88,18 +104,18 @@ def blocks_of(values):
     return [values[start : start + 1024] for start in range(0, len(values), 1024)]
 
 
-def file_of(values):
+def file_of(values, edition=EDITION_WRITTEN):
     """The bytes of the file of these numbers, whose count is one that is taken."""
-    return build.column_file([block_for(build.words(block)) for block in blocks_of(values)])
+    return build.column_file([block_of(block) for block in blocks_of(values)], edition)
 
 
-def bound(values):
-    """The room that Item 3 says a file needs at most. It decides nothing."""
-    return 4 + 8208 * (len(values) // 1024)
+def bound(values, edition=EDITION_WRITTEN):
+    """The room that a file needs at most. It decides nothing."""
+    return files.contents_length(edition, 0) + (8192 + files.ENTRIES[edition].size) * (len(values) // 1024)
 
 
 def write(values, room):
-    """Item 3's call, for an output of that many bytes: the answer, and the file's bytes, None where it is refused."""
+    """The call, for an output of that many bytes: the answer, and the file's bytes, None where it is refused."""
     blocks, rest = divmod(len(values), 1024)
     if rest:
         return Answer(2, 0, f"there are {len(values)} numbers, and a block has 1,024"), None

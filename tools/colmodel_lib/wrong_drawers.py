@@ -1,8 +1,8 @@
 """Calls on drawers that are wrong on purpose, each in one thing.
 
-The sample has to tell each of them from the right one, for either call and at every size, so that it finds out a
-program that is wrong in the same way. Where that takes many values, the sample does it at the smallest elements, and
-the sweep at the others.
+The sample has to tell each of them from the right one, for either call, so that it finds out a program that is wrong in
+the same way. It does so at every size, but where that takes many values: then it does so at the smallest elements, and
+the sweep at all of them.
 """
 from . import drawers
 from .drawers import bytes_of, lanes_of, lengths, numbers_of, parts_of

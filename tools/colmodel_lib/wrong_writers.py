@@ -7,6 +7,7 @@ import contextlib
 from . import build, files, layout, writer
 from .files import DIFFERENCES, FRAME, PACKED
 from .stream import WRITE, Outcome, answered
+from .switches import EDITION_WRITTEN
 
 # First those with another function in the place of one of the model's.
 
@@ -68,6 +69,21 @@ WRONG_PARTS = {
     "the base behind the differences": {"laid_down": base_behind},
 }
 
+# In edition 2 alone there is a range to be wrong about.
+WRONG_RANGES = {
+    "the largest first": {"range_of": lambda values: (max(values), min(values))},
+    "the first and the last": {"range_of": lambda values: (values[0], values[-1])},
+    "the smallest and largest with a sign": {
+        "range_of": lambda values: (min(values, key=signed), max(values, key=signed))
+    },
+    "the smallest and largest above the smallest": {"range_of": lambda values: (0, max(values) - min(values))},
+    "the smallest and what is above it": {"range_of": lambda values: (min(values), max(values) - min(values))},
+    "all that there can be": {"range_of": lambda values: (0, files.TOP)},
+    "the smallest and one past the largest": {"range_of": lambda values: (min(values), (max(values) + 1) % 2**64)},
+}
+if EDITION_WRITTEN == 2:
+    WRONG_PARTS.update(WRONG_RANGES)
+
 
 @contextlib.contextmanager
 def instead(functions):
@@ -97,8 +113,12 @@ def with_room(q, room):
     return Outcome(answer.number, 0, q.c) if answer.number else Outcome(0, 0, data + q.c[len(data) :], len(data))
 
 
+def bound_of(q):
+    return 4 + {1: 8208, 2: 8224}[EDITION_WRITTEN] * (count_of(q) // 1024)
+
+
 def bound_decides(q):
-    return Outcome(14, 0, q.c) if len(q.c) < 4 + 8208 * (count_of(q) // 1024) else answered(q)
+    return Outcome(14, 0, q.c) if len(q.c) < bound_of(q) else answered(q)
 
 
 def one_byte_more(q):
@@ -134,7 +154,8 @@ def rest_filled_up(q):
 
 
 def room_before_count(q):
-    return Outcome(14, 0, q.c) if len(q.c) < 4 + 16 * (count_of(q) // 1024) else answered(q)
+    contents = files.contents_length(EDITION_WRITTEN, count_of(q) // 1024)
+    return Outcome(14, 0, q.c) if len(q.c) < contents else answered(q)
 
 
 def no_numbers_refused(q):
@@ -161,7 +182,7 @@ WRONG_CALLS = {
     "14 before 2": room_before_count,
     "2 for no numbers": no_numbers_refused,
     "the output's length is given back": value_of(lambda q: len(q.c)),
-    "the bound is given back": value_of(lambda q: 4 + 8208 * (count_of(q) // 1024)),
+    "the bound is given back": value_of(bound_of),
     "the number of blocks is given back": value_of(lambda q: count_of(q) // 1024),
     "the length is given back though it is refused": length_though_refused,
 }
