@@ -1,4 +1,5 @@
--- Why transposing helps the dates (document 02, Item 13).
+-- Why transposing helps the dates (document 02, Item 13): the proofs. The page at the head of specs/Dates.antt tells what the theorems mean.
+-- What is said of a rule over all rows and lanes, or over all places, is a test that is computed at each of them.
 -- Assumes nothing.
 use mathlib.Core.List.{List}
 use mathlib.Core.Logic.{_≢_}
