@@ -2,7 +2,6 @@
 -- What is said of a rule over all rows and lanes, or over all places, is a test that is computed at each of them.
 -- Assumes nothing.
 use mathlib.Core.List.{List}
-use mathlib.Core.Logic.{_≢_}
 use mathlib.Core.Path.{_≡_, refl, sym, ap, ap₂, _∙_, subst, subst₂}
 use mathlib.Core.Bool.{Bool, true, false}
 use Prim.Native.Nat.{ℕ, zero, suc, _+_, _-_, _*_, _/_, _%_, _^_, _≤_, _<_}
@@ -121,13 +120,9 @@ each-date t s x i hi h =
     let at : place (row t p) (lane t p) ≡ p = place-row-lane s p hp in
     let from : source (lane t p) + row t p ≡ i =
     sym (row-sources t s (row t p) (lane t p) (row-lt s p hp) (lane-lt s p hp)) ∙ ap source at ∙ source-target i hi in
-    let later : 1 ≤ row t p = pos (row t p) (λ z. h (sym (row-left s i hi) ∙ z)) in
+    let later : 1 ≤ row t p = omega (arith, row-left s i hi) in
     let law = neighbours t s x (row t p) (lane t p) later (row-lt s p hp) (lane-lt s p hp) in
     rw (at, from) at law
-  where
-    pos : (n : ℕ) → n ≢ 0 → 1 ≤ n
-    pos zero h = absurd (h refl)
-    pos (suc n) h = omega arith
 
 -- ---- transposes one after another
 
@@ -201,6 +196,6 @@ no-fewer outputs blocks n h1 h e =
     ap (λ x. getD x 1 0) (sym e)
     ∙ transposed-at outputs blocks lone lone-long n 1 one
     ∙ lone-at (sources n 1) (sources-lt n 1 one)
-    ∙ moved n h1 h in
+    ∙ moved n h1 (omega arith) in
     let z : _≡_ {A = ℕ} 1 0 = sym (lone-at 1 one) ∙ came in
     omega arith
