@@ -1,5 +1,5 @@
 // A tour in a screenful, for a person: a block is packed, a row is looked up, two calls are refused, a budget is kept, a width does damage that is too
-// narrow for its numbers, and a column file is written and read. The program reads nothing. What it must write stands in
+// narrow for its numbers, dates are transposed before their differences are taken, and a column file is written and read. The program reads nothing. What it must write stands in
 // crates/tour/stdout, worked out by hand from documents 01 and 02.
 use access::t8::Single;
 use contents::FileAnswer;
@@ -16,6 +16,7 @@ fn main() {
     show_list(&packed);
     show_budget(&packed);
     show_widths();
+    show_dates();
     show_file();
 }
 
@@ -129,6 +130,42 @@ fn framed_back(width: usize, x: u8, reference: u8, packed: &mut [u8]) -> u8 {
     back[0]
 }
 
+// A block of dates, whose neighbours meet in a lane where it is transposed first (crates/dates/specs/Dates.antt).
+fn show_dates() {
+    let days = working_days();
+    let mut turned = [0u16; 1024];
+    places::t16::transpose(&days, &mut turned);
+    say(b"\nA block of 1024 dates has the working days from day 20000 on: each is 1 or 3 days\n");
+    say(b"after the one before. Delta stores each row of a lane minus the row before it.\n");
+    say(b"Of lane 0 these are rows 1, 5 and 8, as the block stands and transposed first:\n");
+    show_rows(differences(&days), differences(&turned));
+    say(b"From row 1 on 2 bits are enough for each difference of the transposed block,\n");
+    say(b"and those of the block as it stands take all 16.\n");
+}
+
+// Rows 1, 5 and 8 of lane 0 stand at the places 128, 640 and 64.
+fn show_rows(apart: [u16; 1024], met: [u16; 1024]) {
+    line(b"  ", date(apart[128]), b", transposed ", date(met[128]));
+    line(b"  ", date(apart[640]), b", transposed ", date(met[640]));
+    line(b"  ", date(apart[64]), b", transposed ", date(met[64]));
+}
+
+// After each five days two are left out.
+fn working_days() -> [u16; 1024] {
+    let mut days = [0u16; 1024];
+    for i in 0..1024 {
+        days[i] = (20000 + i + i / 5 * 2) as u16;
+    }
+    days
+}
+
+// What delta stores of the dates. The base is zeros, so row 0 stores its dates as they are.
+fn differences(dates: &[u16; 1024]) -> [u16; 1024] {
+    let mut numbers = [0u16; 1024];
+    deltas::t16::delta(dates, &[0u16; 64], &mut numbers);
+    numbers
+}
+
 // A column file of one block. Of the three ways to write it the frame is the shortest: the numbers are at most 2 above the
 // smallest, so its width is 2 and its body 256 bytes, behind the 20 bytes of the contents.
 fn show_file() {
@@ -199,5 +236,9 @@ fn say(text: &[u8]) {
 
 // A cast in a function of its own leaves nothing to prove where it is used.
 fn wide(x: u8) -> u64 {
+    x as u64
+}
+
+fn date(x: u16) -> u64 {
     x as u64
 }
