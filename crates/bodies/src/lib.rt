@@ -25,7 +25,7 @@ ghost use Rattle.runs.specs.Highest.{highestOf};
 ghost use Rattle.runs.specs.Runs.{decodeOf};
 ghost use Rattle.contents.specs.Answers.{good-runs, fileAnswer, numberOf};
 ghost use Rattle.contents.specs.Contents.{isLaidOut};
-ghost use Rattle.bodies.specs.Ranges.{lowestOf};
+ghost use Rattle.bodies.specs.Ranges.{lowestOf, isRange};
 ghost use Rattle.bodies.specs.Bodies.{runIndices, wordsFrom, packedFrom, blockOf, indexed, hasGoodRuns, bodyTests, blockTests, blockLeaves};
 
 // Whether the body is as its entry says.
@@ -78,6 +78,14 @@ pub fn range_of(values: &[u64]) -> Range
         smallest: low,
         largest: high,
     }
+}
+
+// Whether a range is the true one of the values.
+pub fn is_range(range: Range, values: &[u64]) -> bool
+    ensures { λ r. ⌜ r ≡ isRange range (now (values .entry)) ⌝ }
+{
+    let found = range_of(values);
+    (range.smallest == found.smallest) & (range.largest == found.largest)
 }
 
 // Whether the entry is as laid out and the body as long as it says. After this only the run indices are left to test.

@@ -153,6 +153,13 @@ pub fn count(front: &[u8]) -> usize
     pair(front, 2) as usize
 }
 
+// How many bytes the contents have, by the edition and the block count: behind them the first body begins.
+pub fn contents_length(front: &[u8]) -> usize
+    ensures { λ r. ⌜ r ≡ contentsSize (editionOr (now (front .entry))) (countOr (now (front .entry))) ⌝ }
+{
+    contents_size(edition(front), pair(front, 2) as usize)
+}
+
 // Entry i. Where it is not all there, an entry of no kind stands for it, which no body is right for.
 pub fn entry_or(front: &[u8], i: usize) -> Entry
     ensures { λ r. ⌜ r ≡ entryOr (now (front .entry)) i ⌝ }

@@ -1,4 +1,4 @@
--- What one block out and the lookup of a row answer, by the tests that they make.
+-- What one block out answers by the tests up to the run indices, and what the lookup of a row answers by one block out.
 -- Assumes nothing.
 use mathlib.Core.Bool.{Bool, true, false}
 use mathlib.Core.List.{List, [], _∷_, _++_}
@@ -14,9 +14,11 @@ use Rattle.contents.specs.declared.FileAnswer.{FileAnswer}
 use Rattle.contents.specs.declared.FileAnswer.the-variants.{Done, Block, Beyond, Runs}
 use Rattle.contents.specs.Answers.{FileTest, a-number, passes, refusal, fileAnswer, numberOf, isDone, left}
 use Rattle.contents.specs.Contents.{count, entryOf, entryOr, isLaidOut, contentsTests}
+use Rattle.contents.proofs.Accepted.{whole-laid}
 use Rattle.contents.proofs.Answers.{passed, stopped, none-left, refusal-not-done, in-front-done, in-front-refused, number-done}
 use Rattle.files.specs.declared.Row.the-variants.{Value, Refused}
-use Rattle.files.specs.Files.{rowCount, rowAt, blockIn, fileTests, blockTests, blockLeaves, rowTests}
+use Rattle.files.specs.Files.{rowCount, rowAt, blockIn, fileTests, blockTests, rowTests}
+use Rattle.files.specs.InnerRuns.{runsTests, runsBlockTests, runsBlockLeaves}
 use Rattle.files.specs.Rows.{rowWords, rowOf}
 use Rattle.files.proofs.Files.{goodIn, left-picked, whole, entry-read}
 use Rattle.files.proofs.Others.{badBut, asked-bad, none-bad}
@@ -47,39 +49,39 @@ number-passed n m e =
 
 module _ (l : List ℕ) where
   module _ (b : ℕ) (output : List ℕ) where
-    pub bad-output : (length output ≡ 1024 → ⊥) → fileAnswer (blockTests l b output) ≡ Block
+    pub bad-output : (length output ≡ 1024 → ⊥) → fileAnswer (runsBlockTests l b output) ≡ Block
     bad-output h = stopped _ _ (ne-eqb (length output) 1024 h)
 
     module _ (e : length output ≡ 1024) where
-      pub block-refused : (numberOf (fileAnswer (fileTests l)) ≡ 0 → ⊥) → fileAnswer (blockTests l b output) ≡ fileAnswer (fileTests l)
+      pub block-refused : (numberOf (fileAnswer (runsTests l)) ≡ 0 → ⊥) → fileAnswer (runsBlockTests l b output) ≡ fileAnswer (runsTests l)
       block-refused n =
           passed _ _ (eq-eqb (length output) 1024 e)
-          ∙ in-front-refused (fileTests l) (a-number b (count l) ∷ []) (λ d. n (ap numberOf d))
+          ∙ in-front-refused (runsTests l) (a-number b (count l) ∷ []) (λ d. n (ap numberOf d))
 
-      module _ (done : fileAnswer (fileTests l) ≡ Done) where
-        number-left : fileAnswer (blockTests l b output) ≡ fileAnswer (a-number b (count l) ∷ [])
-        number-left = passed _ _ (eq-eqb (length output) 1024 e) ∙ in-front-done (fileTests l) (a-number b (count l) ∷ []) done
+      module _ (done : fileAnswer (runsTests l) ≡ Done) where
+        number-left : fileAnswer (runsBlockTests l b output) ≡ fileAnswer (a-number b (count l) ∷ [])
+        number-left = passed _ _ (eq-eqb (length output) 1024 e) ∙ in-front-done (runsTests l) (a-number b (count l) ∷ []) done
 
-        pub block-beyond : count l ≤ b → fileAnswer (blockTests l b output) ≡ Beyond
+        pub block-beyond : count l ≤ b → fileAnswer (runsBlockTests l b output) ≡ Beyond
         block-beyond h = number-left ∙ stopped _ _ (le-ltb b (count l) h)
 
-        pub block-done : b < count l → fileAnswer (blockTests l b output) ≡ Done
+        pub block-done : b < count l → fileAnswer (runsBlockTests l b output) ≡ Done
         block-done h = number-left ∙ passed _ _ (lt-ltb b (count l) h) ∙ none-left
 
       -- Where the contents are right and every other block is good, block b decides.
       module _ (right : fileAnswer (contentsTests l (length l)) ≡ Done) (none : badBut l b ≡ count l) (h : b < count l) where
-        pub block-decides : fileAnswer (blockTests l b output) ≡ pick (goodIn l b) Done (Runs b)
+        pub block-decides : fileAnswer (runsBlockTests l b output) ≡ pick (goodIn l b) Done (Runs b)
         block-decides = go (goodIn l b) refl
           where
-            go : (t : Bool) → goodIn l b ≡ t → fileAnswer (blockTests l b output) ≡ pick t Done (Runs b)
+            go : (t : Bool) → goodIn l b ≡ t → fileAnswer (runsBlockTests l b output) ≡ pick t Done (Runs b)
             go true g = block-done (none-bad l right b none (λ _. g)) h
             go false g =
                 let bad = asked-bad l right b (count l) (sym none) (omega arith) h g in
-                let thirteen : numberOf (fileAnswer (fileTests l)) ≡ 13 = ap numberOf bad in
+                let thirteen : numberOf (fileAnswer (runsTests l)) ≡ 13 = ap numberOf bad in
                 block-refused (λ z. omega arith) ∙ bad
 
-        pub block-leaves : blockLeaves l b output ≡ pick (goodIn l b) (blockIn l b) output
-        unfolding blockLeaves
+        pub block-leaves : runsBlockLeaves l b output ≡ pick (goodIn l b) (blockIn l b) output
+        unfolding runsBlockLeaves
         block-leaves = ap (λ a. left a (blockIn l b) output) block-decides ∙ left-picked (goodIn l b) b (blockIn l b) output
 
   module _ (p : ℕ) where
@@ -116,7 +118,7 @@ module _ (l : List ℕ) where
       row-entry = entry-read l right (p / 1024) there
 
       pub row-laid : isLaidOut (entryOf l (p / 1024)) ≡ true
-      row-laid = whole l right .laid (p / 1024) there
+      row-laid = whole-laid (whole l right) (p / 1024) there
 
     pub row-done : fileAnswer (rowTests l p) ≡ Done → rowOf l p ≡ Value (rowAt l p) (rowWords l p)
     row-done e = row-is Done e

@@ -17,7 +17,8 @@ use Rattle.contents.specs.Contents.{count, contentsTests}
 use Rattle.contents.specs.First.{firstBad}
 use Rattle.contents.proofs.Answers.{stopped, in-front-done}
 use Rattle.contents.proofs.First.{first-only, first-le, first-before, first-at}
-use Rattle.files.specs.Files.{badRuns, fileTests}
+use Rattle.files.specs.Files.{badRuns}
+use Rattle.files.specs.InnerRuns.{runsTests}
 use Rattle.files.proofs.Files.{goodIn, no-bad-runs}
 
 -- This is the lowest number below n, other than b, whose test fails, and n where there is none.
@@ -59,7 +60,7 @@ but-le l b = first-le (count l) (λ i. either (eqb i b) (goodIn l i))
 
 module _ (l : List ℕ) (right : fileAnswer (contentsTests l (length l)) ≡ Done) where
   -- behind right contents the lowest bad block decides
-  runs-at : (p : ℕ) → p ≡ badRuns l → p < count l → fileAnswer (fileTests l) ≡ Runs p
+  runs-at : (p : ℕ) → p ≡ badRuns l → p < count l → fileAnswer (runsTests l) ≡ Runs p
   runs-at p found h =
       in-front-done (contentsTests l (length l)) (good-runs (badRuns l) (count l) ∷ []) right
       ∙ stopped _ _ (ne-eqb (badRuns l) (count l) (λ e. omega arith))
@@ -67,17 +68,17 @@ module _ (l : List ℕ) (right : fileAnswer (contentsTests l (length l)) ≡ Don
 
   module _ (b bad : ℕ) (found : bad ≡ badBut l b) where
     -- Of the other blocks the lowest bad one is reported, where block b is behind it or good;
-    pub other-bad : bad < count l → (b < bad → goodIn l b ≡ true) → fileAnswer (fileTests l) ≡ Runs bad
+    pub other-bad : bad < count l → (b < bad → goodIn l b ≡ true) → fileAnswer (runsTests l) ≡ Runs bad
     unfolding badRuns
     other-bad h good = runs-at bad (found ∙ first-others (count l) b (goodIn l) (λ k. good (omega arith))) h
 
     -- block b is, where it is bad and not behind that one;
-    pub asked-bad : b ≤ bad → b < count l → goodIn l b ≡ false → fileAnswer (fileTests l) ≡ Runs b
+    pub asked-bad : b ≤ bad → b < count l → goodIn l b ≡ false → fileAnswer (runsTests l) ≡ Runs b
     unfolding badRuns
     asked-bad low h worse = runs-at b (first-left-out (count l) b (goodIn l) (omega arith) h worse) h
 
   -- and where no block is bad, the file is right.
-  pub none-bad : (b : ℕ) → badBut l b ≡ count l → (b < count l → goodIn l b ≡ true) → fileAnswer (fileTests l) ≡ Done
+  pub none-bad : (b : ℕ) → badBut l b ≡ count l → (b < count l → goodIn l b ≡ true) → fileAnswer (runsTests l) ≡ Done
   none-bad b none good =
       let found : firstBad (count l) (goodIn l) ≡ count l = sym (first-others (count l) b (goodIn l) (λ h. good (omega arith))) ∙ none in
       in-front-done (contentsTests l (length l)) (good-runs (badRuns l) (count l) ∷ []) right

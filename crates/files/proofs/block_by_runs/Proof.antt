@@ -1,4 +1,4 @@
--- `files::block_out` meets its contract: each refusal by its test, and the block by what `lay_down` ensures.
+-- `files::block_by_runs` meets its contract: each refusal by its test, and the block by what `lay_down` ensures.
 -- Assumes nothing.
 use mathlib.Core.Path.{_≡_, refl, sym, ap, _∙_}
 use Prim.Native.Nat.{_≤_, _<_}
@@ -10,12 +10,13 @@ use Rattle.contents.specs.declared.FileAnswer.the-variants.{Done}
 use Rattle.contents.specs.Answers.{numberOf, fileAnswer, left}
 use Rattle.contents.specs.Contents.{count, contentsTests}
 use Rattle.contents.proofs.Answers.{left-refused}
-use Rattle.files.specs.Files.{blockTests, blockIn, blockLeaves}
+use Rattle.files.specs.Files.{blockIn}
+use Rattle.files.specs.InnerRuns.{runsBlockTests, runsBlockLeaves}
 use Rattle.files.proofs.Calls.{bad-output, block-refused, block-beyond, block-decides, block-leaves}
 use Rattle.files.proofs.Files.{count-read}
 use Rattle.files.proofs.Others.{badBut, none-bad}
-use Rattle.files.proofs.block_out.Statement.{statement}
-use Rattle.files.proofs.block_out.Tie as tie
+use Rattle.files.proofs.block_by_runs.Statement.{statement}
+use Rattle.files.proofs.block_by_runs.Tie as tie
 
 -- the contents are right where the number is 0, and every other block is good
 rest : (c : tie.Else2) → (fileAnswer (contentsTests (now (c .before .before .before .before .before .before .args .file)) (length (now (c .before .before .before .before .before .before .args .file)))) ≡ Done) × (badBut (now (c .before .before .before .before .before .before .args .file)) (c .before .before .before .before .before .before .args .b) ≡ count (now (c .before .before .before .before .before .before .args .file)))
@@ -30,7 +31,7 @@ count-is c =
     c .count .ensures ∙ count-read l (rest (c .before) .0)
 
 returns : tie.Need-returns
-unfolding blockLeaves
+unfolding runsBlockLeaves
 returns c = rw (bad-output (now (c .before .before .before .args .file)) _ _ (c .if1 .taken)) (refl, refl)
 
 check-but-requires : tie.Need-check-but-requires
@@ -40,7 +41,7 @@ number-requires : tie.Need-number-requires
 number-requires c κs = search needs
 
 returns-2 : tie.Need-returns-2
-unfolding blockLeaves
+unfolding runsBlockLeaves
 returns-2 c =
     let asked = c .before .before in
     let start = asked .before .before .before .before in
@@ -48,13 +49,13 @@ returns-2 c =
     let refused : numberOf (asked .check-but .result) ≡ 0 → ⊥ = λ e. c .if2 .taken (c .before .number .ensures ∙ e) in
     let file = asked .check-but .ensures .0 refused in
     let bad = block-refused l (start .args .b) (now (start .args .output)) (omega arith) (λ e. refused (ap numberOf file ∙ e)) in
-    (file ∙ sym bad, sym (left-refused (fileAnswer (blockTests l (start .args .b) (now (start .args .output)))) (blockIn l (start .args .b)) (now (start .args .output)) (λ e. refused (ap numberOf (file ∙ sym bad) ∙ e))))
+    (file ∙ sym bad, sym (left-refused (fileAnswer (runsBlockTests l (start .args .b) (now (start .args .output)))) (blockIn l (start .args .b)) (now (start .args .output)) (λ e. refused (ap numberOf (file ∙ sym bad) ∙ e))))
 
 count-requires : tie.Need-count-requires
 count-requires c κs = search needs
 
 returns-3 : tie.Need-returns-3
-unfolding blockLeaves
+unfolding runsBlockLeaves
 returns-3 c =
     let at = c .before in
     let start = at .before .before .before .before .before .before .before in
@@ -85,8 +86,8 @@ returns-4 c =
       c .before .before .lay-down .ensures .1 ∙ sym (block-leaves l b output (omega arith) (others .0) (others .1) low),
     )
 
-pub block-out-spec : {M : Type 1} → statement M
-block-out-spec =
+pub block-by-runs-spec : {M : Type 1} → statement M
+block-by-runs-spec =
     tie.close
     (tie.spec
     returns

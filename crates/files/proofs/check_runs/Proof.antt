@@ -1,4 +1,4 @@
--- `files::check` meets its contract: no block is left out.
+-- `files::check_runs` meets its contract: no block is left out.
 -- Assumes nothing.
 use mathlib.Core.Path.{sym, _∙_}
 use native.Mathlib.Decide.{ℕ-discrete}
@@ -9,8 +9,8 @@ use Rattle.contents.specs.Answers.{numberOf}
 use Rattle.contents.proofs.Answers.{number-done}
 use Rattle.files.proofs.Files.{count-read}
 use Rattle.files.proofs.Others.{none-bad}
-use Rattle.files.proofs.check.Statement.{statement}
-use Rattle.files.proofs.check.Tie as tie
+use Rattle.files.proofs.check_runs.Statement.{statement}
+use Rattle.files.proofs.check_runs.Tie as tie
 
 count-requires : tie.Need-count-requires
 count-requires c κs = search needs
@@ -30,5 +30,5 @@ returns c =
       | no n ↦ c .check-but .ensures .0 n
     ]
 
-pub check-spec : {M : Type 1} → statement M
-check-spec = tie.close (tie.spec count-requires check-but-requires returns)
+pub check-runs-spec : {M : Type 1} → statement M
+check-runs-spec = tie.close (tie.spec count-requires check-but-requires returns)

@@ -1,0 +1,19 @@
+-- `bodies::is_range` meets its contract: both ends are compared.
+-- Assumes nothing.
+use mathlib.Core.Path.{ap₂}
+use lib.Dec.{eqb}
+use borrow.Author.Needs.{needs}
+use Rattle.places.specs.Pick.{both}
+use Rattle.bodies.proofs.is_range.Statement.{statement}
+use Rattle.bodies.proofs.is_range.Tie as tie
+
+range-of-requires : tie.Need-range-of-requires
+range-of-requires c κs = search needs
+
+returns : tie.Need-returns
+returns c =
+    let range = c .before .before .before .args .range in
+    ap₂ (λ low high. both (eqb (range .smallest) low) (eqb (range .largest) high)) (c .range-of .ensures .0) (c .range-of .ensures .1)
+
+pub is-range-spec : {M : Type 1} → statement M
+is-range-spec = tie.close (tie.spec range-of-requires returns)
