@@ -1,4 +1,4 @@
--- What one block out answers by the tests up to the run indices, and what the lookup of a row answers by one block out.
+-- What one block out answers by its tests, and what the lookup of a row answers by one block out.
 -- Assumes nothing.
 use mathlib.Core.Bool.{Bool, true, false}
 use mathlib.Core.List.{List, [], _∷_, _++_}
@@ -12,7 +12,7 @@ use Rattle.places.specs.Answers.{unless}
 use Rattle.places.specs.Pick.{pick}
 use Rattle.contents.specs.declared.FileAnswer.{FileAnswer}
 use Rattle.contents.specs.declared.FileAnswer.the-variants.{Done, Block, Beyond, Runs}
-use Rattle.contents.specs.Answers.{FileTest, a-number, passes, refusal, fileAnswer, numberOf, isDone, left}
+use Rattle.contents.specs.Answers.{FileTest, a-block, a-number, passes, refusal, fileAnswer, numberOf, isDone, left}
 use Rattle.contents.specs.Contents.{count, entryOf, entryOr, isLaidOut, contentsTests}
 use Rattle.contents.proofs.Accepted.{whole-laid}
 use Rattle.contents.proofs.Answers.{passed, stopped, none-left, refusal-not-done, in-front-done, in-front-refused, number-done}
@@ -47,38 +47,42 @@ number-passed n m e =
       | no h ↦ absurd (refusal-not-done (a-number n m) (sym (stopped _ [] (le-ltb n m (omega arith))) ∙ e))
     ]
 
+-- One block out tests its output first, then makes the tests of the file, and tests the number of the block last. `tests` are those of the file:
+-- all of them, or those up to the run indices.
+module _ (tests : List FileTest) (b n : ℕ) (output : List ℕ) where
+  pub bad-output : (length output ≡ 1024 → ⊥) → fileAnswer (a-block output ∷ (tests ++ (a-number b n ∷ []))) ≡ Block
+  bad-output h = stopped _ _ (ne-eqb (length output) 1024 h)
+
+  module _ (e : length output ≡ 1024) where
+    pub block-refused : (numberOf (fileAnswer tests) ≡ 0 → ⊥) → fileAnswer (a-block output ∷ (tests ++ (a-number b n ∷ []))) ≡ fileAnswer tests
+    block-refused refused =
+        passed _ _ (eq-eqb (length output) 1024 e)
+        ∙ in-front-refused tests (a-number b n ∷ []) (λ d. refused (ap numberOf d))
+
+    module _ (done : fileAnswer tests ≡ Done) where
+      number-left : fileAnswer (a-block output ∷ (tests ++ (a-number b n ∷ []))) ≡ fileAnswer (a-number b n ∷ [])
+      number-left = passed _ _ (eq-eqb (length output) 1024 e) ∙ in-front-done tests (a-number b n ∷ []) done
+
+      pub block-beyond : n ≤ b → fileAnswer (a-block output ∷ (tests ++ (a-number b n ∷ []))) ≡ Beyond
+      block-beyond h = number-left ∙ stopped _ _ (le-ltb b n h)
+
+      pub block-done : b < n → fileAnswer (a-block output ∷ (tests ++ (a-number b n ∷ []))) ≡ Done
+      block-done h = number-left ∙ passed _ _ (lt-ltb b n h) ∙ none-left
+
 module _ (l : List ℕ) where
   module _ (b : ℕ) (output : List ℕ) where
-    pub bad-output : (length output ≡ 1024 → ⊥) → fileAnswer (runsBlockTests l b output) ≡ Block
-    bad-output h = stopped _ _ (ne-eqb (length output) 1024 h)
-
     module _ (e : length output ≡ 1024) where
-      pub block-refused : (numberOf (fileAnswer (runsTests l)) ≡ 0 → ⊥) → fileAnswer (runsBlockTests l b output) ≡ fileAnswer (runsTests l)
-      block-refused n =
-          passed _ _ (eq-eqb (length output) 1024 e)
-          ∙ in-front-refused (runsTests l) (a-number b (count l) ∷ []) (λ d. n (ap numberOf d))
-
-      module _ (done : fileAnswer (runsTests l) ≡ Done) where
-        number-left : fileAnswer (runsBlockTests l b output) ≡ fileAnswer (a-number b (count l) ∷ [])
-        number-left = passed _ _ (eq-eqb (length output) 1024 e) ∙ in-front-done (runsTests l) (a-number b (count l) ∷ []) done
-
-        pub block-beyond : count l ≤ b → fileAnswer (runsBlockTests l b output) ≡ Beyond
-        block-beyond h = number-left ∙ stopped _ _ (le-ltb b (count l) h)
-
-        pub block-done : b < count l → fileAnswer (runsBlockTests l b output) ≡ Done
-        block-done h = number-left ∙ passed _ _ (lt-ltb b (count l) h) ∙ none-left
-
       -- Where the contents are right and every other block is good, block b decides.
       module _ (right : fileAnswer (contentsTests l (length l)) ≡ Done) (none : badBut l b ≡ count l) (h : b < count l) where
         pub block-decides : fileAnswer (runsBlockTests l b output) ≡ pick (goodIn l b) Done (Runs b)
         block-decides = go (goodIn l b) refl
           where
             go : (t : Bool) → goodIn l b ≡ t → fileAnswer (runsBlockTests l b output) ≡ pick t Done (Runs b)
-            go true g = block-done (none-bad l right b none (λ _. g)) h
+            go true g = block-done (runsTests l) b (count l) output e (none-bad l right b none (λ _. g)) h
             go false g =
                 let bad = asked-bad l right b (count l) (sym none) (omega arith) h g in
                 let thirteen : numberOf (fileAnswer (runsTests l)) ≡ 13 = ap numberOf bad in
-                block-refused (λ z. omega arith) ∙ bad
+                block-refused (runsTests l) b (count l) output e (λ z. omega arith) ∙ bad
 
         pub block-leaves : runsBlockLeaves l b output ≡ pick (goodIn l b) (blockIn l b) output
         unfolding runsBlockLeaves

@@ -3,7 +3,7 @@
 -- Assumes nothing.
 use mathlib.Core.Bool.{Bool, true, false}
 use mathlib.Core.List.{List, [], _∷_, _++_}
-use mathlib.Core.Path.{_≡_, refl, sym, ap, _∙_}
+use mathlib.Core.Path.{_≡_, refl, sym, ap, ap₂, _∙_}
 use Prim.Native.Nat.{ℕ, _≤_, _<_}
 use native.Mathlib.Decide.{ℕ-discrete}
 use native.Mathlib.Omega.{arith}
@@ -13,14 +13,16 @@ use borrow.Author.Tests.{eq-eqb, ne-eqb, eqb-true}
 use Rattle.places.specs.Pick.{pick}
 use Rattle.contents.specs.declared.FileAnswer.the-variants.{Done, Block, Beyond, Range}
 use Rattle.contents.specs.Answers.{FileTest, a-block, a-number, good-runs, true-ranges, passes, fileAnswer, numberOf, left}
-use Rattle.contents.specs.Contents.{edition, count, editionOr, contentsTests}
+use Rattle.contents.specs.Contents.{edition, count, editionOr, entryOr, rangeOf, rangeOr, contentsTests}
 use Rattle.contents.specs.First.{firstBad}
 use Rattle.contents.proofs.Accepted.{done-first, done-front, done-both}
 use Rattle.contents.proofs.Answers.{passed, stopped, none-left, in-front-done, in-front-refused, number-done}
 use Rattle.contents.proofs.First.{first-only, first-before}
-use Rattle.files.specs.Files.{blockIn, hasTrueRange, badRuns, badRange, fileTests, blockTests, blockLeaves}
+use Rattle.bodies.specs.Bodies as Bodies
+use Rattle.bodies.specs.Ranges.{isRange}
+use Rattle.files.specs.Files.{bodyOf, blockIn, hasTrueRange, badRuns, badRange, fileTests, blockTests, blockLeaves}
 use Rattle.files.specs.InnerRuns.{runsTests, runsBlockTests, runsBlockLeaves}
-use Rattle.files.proofs.Files.{goodIn, whole, edition-read}
+use Rattle.files.proofs.Files.{goodIn, edition-read, entry-read, range-read, block-left}
 
 -- A test that is passed wherever those in front of it are changes no answer.
 passed-inside : (xs ys : List FileTest) (x : FileTest) → (fileAnswer xs ≡ Done → passes x ≡ true) → fileAnswer (xs ++ (x ∷ ys)) ≡ fileAnswer (xs ++ ys)
@@ -53,6 +55,30 @@ module _ (l : List ℕ) where
 
   pub file-runs : fileAnswer (fileTests l) ≡ Done → fileAnswer (runsTests l) ≡ Done
   file-runs done = done-front (runsTests l) (true-ranges (badRange l) (count l) ∷ []) done .0
+
+  -- Where those up to the run indices refuse the file, that is its answer; where they do not, the ranges decide.
+  pub file-refused : (numberOf (fileAnswer (runsTests l)) ≡ 0 → ⊥) → fileAnswer (fileTests l) ≡ fileAnswer (runsTests l)
+  file-refused refused = in-front-refused (runsTests l) (true-ranges (badRange l) (count l) ∷ []) (λ d. refused (ap numberOf d))
+
+  pub file-ranges : fileAnswer (runsTests l) ≡ Done → fileAnswer (fileTests l) ≡ fileAnswer (true-ranges (badRange l) (count l) ∷ [])
+  file-ranges done = in-front-done (runsTests l) (true-ranges (badRange l) (count l) ∷ []) done
+
+  pub ranges-done : badRange l ≡ count l → fileAnswer (true-ranges (badRange l) (count l) ∷ []) ≡ Done
+  ranges-done none = passed _ _ (eq-eqb (badRange l) (count l) none) ∙ none-left
+
+  pub range-at : (p : ℕ) → p ≡ badRange l → (p ≡ count l → ⊥) → fileAnswer (true-ranges (badRange l) (count l) ∷ []) ≡ Range p
+  range-at p found some = stopped _ _ (ne-eqb (badRange l) (count l) (λ e. some (found ∙ e))) ∙ ap Range (sym found)
+
+  -- In edition 2 the range of a block that was laid down is held to what was left of it.
+  pub range-tested : fileAnswer (runsTests l) ≡ Done → edition l ≡ 2 → (i : ℕ) → i < count l → (output : List ℕ) → length output ≡ 1024
+      → isRange (rangeOr l i) (Bodies.blockLeaves (entryOr l i) (bodyOf l i) output) ≡ hasTrueRange l i
+  unfolding hasTrueRange
+  range-tested done second i h output e =
+      let right = contents-right done in
+      let there = ap (λ t. pick t (blockIn l i) output) (runs-good done i h) in
+      ap₂ isRange (range-read l right i h)
+      (ap (λ e. Bodies.blockLeaves e (bodyOf l i) output) (entry-read l right i h) ∙ block-left l right i h output e ∙ there)
+      ∙ sym (ap (λ t. pick t (isRange (rangeOf l i) (blockIn l i)) true) (eq-eqb (edition l) 2 second))
 
   -- A block of another edition than 2 has no range to test,
   no-ranges : (edition l ≡ 2 → ⊥) → badRange l ≡ count l

@@ -11,7 +11,7 @@ use Rattle.contents.specs.Answers.{numberOf, fileAnswer, left}
 use Rattle.contents.specs.Contents.{count, contentsTests}
 use Rattle.contents.proofs.Answers.{left-refused}
 use Rattle.files.specs.Files.{blockIn}
-use Rattle.files.specs.InnerRuns.{runsBlockTests, runsBlockLeaves}
+use Rattle.files.specs.InnerRuns.{runsTests, runsBlockTests, runsBlockLeaves}
 use Rattle.files.proofs.Calls.{bad-output, block-refused, block-beyond, block-decides, block-leaves}
 use Rattle.files.proofs.Files.{count-read}
 use Rattle.files.proofs.Others.{badBut, none-bad}
@@ -32,7 +32,7 @@ count-is c =
 
 returns : tie.Need-returns
 unfolding runsBlockLeaves
-returns c = rw (bad-output (now (c .before .before .before .args .file)) _ _ (c .if1 .taken)) (refl, refl)
+returns c = rw (bad-output (runsTests (now (c .before .before .before .args .file))) _ (count (now (c .before .before .before .args .file))) _ (c .if1 .taken)) (refl, refl)
 
 check-but-requires : tie.Need-check-but-requires
 check-but-requires c κs = search needs
@@ -48,7 +48,7 @@ returns-2 c =
     let l = now (start .args .file) in
     let refused : numberOf (asked .check-but .result) ≡ 0 → ⊥ = λ e. c .if2 .taken (c .before .number .ensures ∙ e) in
     let file = asked .check-but .ensures .0 refused in
-    let bad = block-refused l (start .args .b) (now (start .args .output)) (omega arith) (λ e. refused (ap numberOf file ∙ e)) in
+    let bad = block-refused (runsTests l) (start .args .b) (count l) (now (start .args .output)) (omega arith) (λ e. refused (ap numberOf file ∙ e)) in
     (file ∙ sym bad, sym (left-refused (fileAnswer (runsBlockTests l (start .args .b) (now (start .args .output)))) (blockIn l (start .args .b)) (now (start .args .output)) (λ e. refused (ap numberOf (file ∙ sym bad) ∙ e))))
 
 count-requires : tie.Need-count-requires
@@ -63,7 +63,7 @@ returns-3 c =
     let others = rest (at .before) in
     let high : count l ≤ start .args .b = omega (arith, count-is at, c .if3 .taken) in
     let done = none-bad l (others .0) (start .args .b) (others .1) (λ h. absurd (omega arith)) in
-    rw (block-beyond l (start .args .b) (now (start .args .output)) (omega arith) done high) (refl, refl)
+    rw (block-beyond (runsTests l) (start .args .b) (count l) (now (start .args .output)) (omega arith) done high) (refl, refl)
 
 lay-down-requires : tie.Need-lay-down-requires
 lay-down-requires c κs =
