@@ -17,11 +17,11 @@ use Rattle.contents.specs.Contents.{count, entryOf, entryOr, isLaidOut, content
 use Rattle.contents.proofs.Accepted.{whole-laid}
 use Rattle.contents.proofs.Answers.{passed, stopped, none-left, refusal-not-done, in-front-done, in-front-refused, number-done}
 use Rattle.files.specs.declared.Row.the-variants.{Value, Refused}
-use Rattle.files.specs.Files.{rowCount, rowAt, blockIn, fileTests, blockTests, rowTests}
-use Rattle.files.specs.InnerRuns.{runsTests, runsBlockTests, runsBlockLeaves}
+use Rattle.files.specs.Files.{rowCount, rowAt, blockIn, badRange, fileTests, blockTests, blockLeaves, rowTests}
 use Rattle.files.specs.Rows.{rowWords, rowOf}
 use Rattle.files.proofs.Files.{goodIn, left-picked, whole, entry-read}
 use Rattle.files.proofs.Others.{badBut, asked-bad, none-bad}
+use Rattle.files.proofs.Ranges.{file-refused, file-ranges, ranges-done}
 
 -- Two tests that answer alike do so behind the same tests.
 last-same : (xs : List FileTest) (x y : FileTest) → fileAnswer (x ∷ []) ≡ fileAnswer (y ∷ []) → fileAnswer (xs ++ (x ∷ [])) ≡ fileAnswer (xs ++ (y ∷ []))
@@ -47,8 +47,7 @@ number-passed n m e =
       | no h ↦ absurd (refusal-not-done (a-number n m) (sym (stopped _ [] (le-ltb n m (omega arith))) ∙ e))
     ]
 
--- One block out tests its output first, then makes the tests of the file, and tests the number of the block last. `tests` are those of the file:
--- all of them, or those up to the run indices.
+-- One block out tests its output first, then makes the tests of the file, and tests the number of the block last.
 module _ (tests : List FileTest) (b n : ℕ) (output : List ℕ) where
   pub bad-output : (length output ≡ 1024 → ⊥) → fileAnswer (a-block output ∷ (tests ++ (a-number b n ∷ []))) ≡ Block
   bad-output h = stopped _ _ (ne-eqb (length output) 1024 h)
@@ -70,23 +69,28 @@ module _ (tests : List FileTest) (b n : ℕ) (output : List ℕ) where
       block-done h = number-left ∙ passed _ _ (lt-ltb b n h) ∙ none-left
 
 module _ (l : List ℕ) where
-  module _ (b : ℕ) (output : List ℕ) where
-    module _ (e : length output ≡ 1024) where
-      -- Where the contents are right and every other block is good, block b decides.
-      module _ (right : fileAnswer (contentsTests l (length l)) ≡ Done) (none : badBut l b ≡ count l) (h : b < count l) where
-        pub block-decides : fileAnswer (runsBlockTests l b output) ≡ pick (goodIn l b) Done (Runs b)
-        block-decides = go (goodIn l b) refl
-          where
-            go : (t : Bool) → goodIn l b ≡ t → fileAnswer (runsBlockTests l b output) ≡ pick t Done (Runs b)
-            go true g = block-done (runsTests l) b (count l) output e (none-bad l right b none (λ _. g)) h
-            go false g =
-                let bad = asked-bad l right b (count l) (sym none) (omega arith) h g in
-                let thirteen : numberOf (fileAnswer (runsTests l)) ≡ 13 = ap numberOf bad in
-                block-refused (runsTests l) b (count l) output e (λ z. omega arith) ∙ bad
+  -- Where the contents are right, every other block is good and every range the true one, block b decides.
+  module _ (b : ℕ) (right : fileAnswer (contentsTests l (length l)) ≡ Done) (others : badBut l b ≡ count l) (ranges : badRange l ≡ count l) where
+    pub file-done : (b < count l → goodIn l b ≡ true) → fileAnswer (fileTests l) ≡ Done
+    file-done good = file-ranges l (none-bad l right b others good) ∙ ranges-done l ranges
 
-        pub block-leaves : runsBlockLeaves l b output ≡ pick (goodIn l b) (blockIn l b) output
-        unfolding runsBlockLeaves
-        block-leaves = ap (λ a. left a (blockIn l b) output) block-decides ∙ left-picked (goodIn l b) b (blockIn l b) output
+    module _ (output : List ℕ) (e : length output ≡ 1024) (h : b < count l) where
+      pub block-decides : fileAnswer (blockTests l b output) ≡ pick (goodIn l b) Done (Runs b)
+      block-decides = go (goodIn l b) refl
+        where
+          go : (t : Bool) → goodIn l b ≡ t → fileAnswer (blockTests l b output) ≡ pick t Done (Runs b)
+          go true g = block-done (fileTests l) b (count l) output e (file-done (λ _. g)) h
+          go false g =
+              let runs = asked-bad l right b (count l) (sym others) (omega arith) h g in
+              let bad : fileAnswer (fileTests l) ≡ Runs b = file-refused l (λ z. thirteen (sym (ap numberOf runs) ∙ z)) ∙ runs in
+              block-refused (fileTests l) b (count l) output e (λ z. thirteen (sym (ap numberOf bad) ∙ z)) ∙ bad
+            where
+              thirteen : _≡_ {A = ℕ} 13 0 → ⊥
+              thirteen z = omega arith
+
+      pub block-leaves : blockLeaves l b output ≡ pick (goodIn l b) (blockIn l b) output
+      unfolding blockLeaves
+      block-leaves = ap (λ a. left a (blockIn l b) output) block-decides ∙ left-picked (goodIn l b) b (blockIn l b) output
 
   module _ (p : ℕ) where
     -- what a row gives, by its answer

@@ -2,7 +2,7 @@
 -- Assumes nothing.
 use mathlib.Core.Bool.{Bool, true, false}
 use mathlib.Core.List.{List, [], _∷_}
-use mathlib.Core.Path.{_≡_, sym, ap, _∙_}
+use mathlib.Core.Path.{_≡_, refl, sym, ap, _∙_}
 use Prim.Native.Nat.{ℕ, _≤_, _<_}
 use native.Mathlib.Decide.{ℕ-discrete}
 use native.Mathlib.Omega.{arith}
@@ -55,6 +55,16 @@ module _ (n b : ℕ) (test : ℕ → Bool) where
 abbrev pub badBut : (l : List ℕ) (b : ℕ) → ℕ
 badBut l b = others (count l) b (goodIn l)
 
+-- Where every block is good, so is every other one.
+pub none-but : (l : List ℕ) (b : ℕ) → ((i : ℕ) → i < count l → goodIn l i ≡ true) → badBut l b ≡ count l
+none-but l b all =
+    sym (first-only (count l) (count l) (λ i. either (eqb i b) (goodIn l i)) (omega arith)
+    (λ i h. ap (either (eqb i b)) (all i h) ∙ either-true (eqb i b)) (λ h. absurd (omega arith)))
+  where
+    either-true : (s : Bool) → either s true ≡ true
+    either-true true = refl
+    either-true false = refl
+
 pub but-le : (l : List ℕ) (b : ℕ) → badBut l b ≤ count l
 but-le l b = first-le (count l) (λ i. either (eqb i b) (goodIn l i))
 
@@ -77,7 +87,7 @@ module _ (l : List ℕ) (right : fileAnswer (contentsTests l (length l)) ≡ Don
     unfolding badRuns
     asked-bad low h worse = runs-at b (first-left-out (count l) b (goodIn l) (omega arith) h worse) h
 
-  -- and where no block is bad, the file is right.
+  -- and where no block is bad, the file is right up to there.
   pub none-bad : (b : ℕ) → badBut l b ≡ count l → (b < count l → goodIn l b ≡ true) → fileAnswer (runsTests l) ≡ Done
   none-bad b none good =
       let found : firstBad (count l) (goodIn l) ≡ count l = sym (first-others (count l) b (goodIn l) (λ h. good (omega arith))) ∙ none in

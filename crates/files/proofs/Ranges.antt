@@ -1,40 +1,25 @@
 -- The test of the ranges, behind those up to the run indices: a file of another edition than 2 passes it, and where all are passed every
 -- block is good.
 -- Assumes nothing.
-use mathlib.Core.Bool.{Bool, true, false}
-use mathlib.Core.List.{List, [], _∷_, _++_}
+use mathlib.Core.Bool.{true}
+use mathlib.Core.List.{List, [], _∷_}
 use mathlib.Core.Path.{_≡_, refl, sym, ap, ap₂, _∙_}
 use Prim.Native.Nat.{ℕ, _≤_, _<_}
-use native.Mathlib.Decide.{ℕ-discrete}
 use native.Mathlib.Omega.{arith}
-use lib.Dec.{eqb}
 use lib.ListN.{length}
 use borrow.Author.Tests.{eq-eqb, ne-eqb, eqb-true}
 use Rattle.places.specs.Pick.{pick}
-use Rattle.contents.specs.declared.FileAnswer.the-variants.{Done, Block, Beyond, Range}
-use Rattle.contents.specs.Answers.{FileTest, a-block, a-number, good-runs, true-ranges, passes, fileAnswer, numberOf, left}
+use Rattle.contents.specs.declared.FileAnswer.the-variants.{Done, Range}
+use Rattle.contents.specs.Answers.{good-runs, true-ranges, fileAnswer, numberOf}
 use Rattle.contents.specs.Contents.{edition, count, editionOr, entryOr, rangeOf, rangeOr, contentsTests}
-use Rattle.contents.specs.First.{firstBad}
-use Rattle.contents.proofs.Accepted.{done-first, done-front, done-both}
-use Rattle.contents.proofs.Answers.{passed, stopped, none-left, in-front-done, in-front-refused, number-done}
+use Rattle.contents.proofs.Accepted.{done-first, done-front}
+use Rattle.contents.proofs.Answers.{passed, stopped, none-left, in-front-done, in-front-refused}
 use Rattle.contents.proofs.First.{first-only, first-before}
 use Rattle.bodies.specs.Bodies as Bodies
 use Rattle.bodies.specs.Ranges.{isRange}
-use Rattle.files.specs.Files.{bodyOf, blockIn, hasTrueRange, badRuns, badRange, fileTests, blockTests, blockLeaves}
-use Rattle.files.specs.InnerRuns.{runsTests, runsBlockTests, runsBlockLeaves}
+use Rattle.files.specs.Files.{bodyOf, blockIn, hasTrueRange, badRuns, badRange, fileTests}
+use Rattle.files.specs.InnerRuns.{runsTests}
 use Rattle.files.proofs.Files.{goodIn, edition-read, entry-read, range-read, block-left}
-
--- A test that is passed wherever those in front of it are changes no answer.
-passed-inside : (xs ys : List FileTest) (x : FileTest) → (fileAnswer xs ≡ Done → passes x ≡ true) → fileAnswer (xs ++ (x ∷ ys)) ≡ fileAnswer (xs ++ ys)
-passed-inside xs ys x good =
-    elim (ℕ-discrete (numberOf (fileAnswer xs)) 0) [
-      | yes zero ↦
-          let done = number-done (fileAnswer xs) zero in
-          in-front-done xs (x ∷ ys) done ∙ passed x ys (good done) ∙ sym (in-front-done xs ys done)
-      | no other ↦
-          let refused : fileAnswer xs ≡ Done → ⊥ = λ e. other (ap numberOf e) in
-          in-front-refused xs (x ∷ ys) refused ∙ sym (in-front-refused xs ys refused)
-    ]
 
 module _ (l : List ℕ) where
   -- contents that are right are right in front of whatever is tested behind them
@@ -50,9 +35,6 @@ module _ (l : List ℕ) where
       first-before (count l) (goodIn l) i (omega arith)
 
   -- The tests of a file are those up to the run indices, and that of the ranges.
-  pub file-split : fileAnswer (fileTests l) ≡ fileAnswer (runsTests l ++ (true-ranges (badRange l) (count l) ∷ []))
-  file-split = refl
-
   pub file-runs : fileAnswer (fileTests l) ≡ Done → fileAnswer (runsTests l) ≡ Done
   file-runs done = done-front (runsTests l) (true-ranges (badRange l) (count l) ∷ []) done .0
 
@@ -62,6 +44,11 @@ module _ (l : List ℕ) where
 
   pub file-ranges : fileAnswer (runsTests l) ≡ Done → fileAnswer (fileTests l) ≡ fileAnswer (true-ranges (badRange l) (count l) ∷ [])
   file-ranges done = in-front-done (runsTests l) (true-ranges (badRange l) (count l) ∷ []) done
+
+  pub file-true : fileAnswer (fileTests l) ≡ Done → badRange l ≡ count l
+  file-true done =
+      let last = done-front (runsTests l) (true-ranges (badRange l) (count l) ∷ []) done .1 in
+      eqb-true (badRange l) (count l) (done-first _ _ last .0)
 
   pub ranges-done : badRange l ≡ count l → fileAnswer (true-ranges (badRange l) (count l) ∷ []) ≡ Done
   ranges-done none = passed _ _ (eq-eqb (badRange l) (count l) none) ∙ none-left
@@ -86,20 +73,6 @@ module _ (l : List ℕ) where
   no-ranges other =
       sym (first-only (count l) (count l) (hasTrueRange l) (omega arith) (λ i _. simp (ne-eqb (edition l) 2 other)) (λ h. absurd (omega arith)))
 
-  -- so the test is passed there, where the contents are right.
-  pub ranges-passed : (editionOr l ≡ 2 → ⊥) → fileAnswer (contentsTests l (length l)) ≡ Done → passes (true-ranges (badRange l) (count l)) ≡ true
-  ranges-passed other done = eq-eqb (badRange l) (count l) (no-ranges (λ e. other (edition-read l done ∙ e)))
-
-  pub other-ranges : (editionOr l ≡ 2 → ⊥) → fileAnswer (contentsTests l (length l)) ≡ Done → fileAnswer (true-ranges (badRange l) (count l) ∷ []) ≡ Done
-  other-ranges other done = passed _ _ (ranges-passed other done) ∙ none-left
-
-  -- One block out is answered without it, and leaves the same.
-  module _ (b : ℕ) (output : List ℕ) (other : editionOr l ≡ 2 → ⊥) where
-    pub block-without : fileAnswer (blockTests l b output) ≡ fileAnswer (runsBlockTests l b output)
-    block-without =
-        passed-inside (a-block output ∷ runsTests l) (a-number b (count l) ∷ []) (true-ranges (badRange l) (count l))
-        (λ done. ranges-passed other (contents-right (done-first (a-block output) (runsTests l) done .1)))
-
-    pub leaves-without : blockLeaves l b output ≡ runsBlockLeaves l b output
-    unfolding blockLeaves runsBlockLeaves
-    leaves-without = ap (λ a. left a (blockIn l b) output) block-without
+  -- where the contents are right, so that the edition is the one that was read.
+  pub other-ranges : (editionOr l ≡ 2 → ⊥) → fileAnswer (contentsTests l (length l)) ≡ Done → badRange l ≡ count l
+  other-ranges other done = no-ranges (λ e. other (edition-read l done ∙ e))

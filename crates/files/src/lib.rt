@@ -25,7 +25,7 @@ ghost use Rattle.contents.specs.Contents.{edition as editionIn, count as countI
 ghost use Rattle.contents.specs.First.{firstBad};
 ghost use Rattle.bodies.specs.Bodies.{hasGoodRuns};
 ghost use Rattle.files.specs.Files.{bodyOf, blockIn, hasTrueRange, badRange, fileTests, blockTests, blockLeaves};
-ghost use Rattle.files.specs.InnerRuns.{runsTests, runsBlockTests, runsBlockLeaves};
+ghost use Rattle.files.specs.InnerRuns.{runsTests};
 ghost use Rattle.files.specs.Rows.{answerOf, valueOf, wordsOf, wordsIn, rowOf};
 
 // Checks the whole file.
@@ -184,13 +184,10 @@ pub fn block_out(file: &[u8], b: usize, output: &mut [u64]) -> FileAnswer
     ensures { λ r. ⌜ r ≡ fileAnswer (blockTests (now (file .entry)) b (now (output .entry))) ⌝ }
     ensures { λ _. ⌜ now (output .exit) ≡ blockLeaves (now (file .entry)) b (now (output .entry)) ⌝ }
 {
-    if edition(file) != 2 {
-        return block_by_runs(file, b, output);
-    }
     if output.len() != 1024 {
         return FileAnswer::Block;
     }
-    let answer = check(file);
+    let answer = check_for(file, b);
     if answer.number() != 0 {
         return answer;
     }
@@ -200,22 +197,18 @@ pub fn block_out(file: &[u8], b: usize, output: &mut [u64]) -> FileAnswer
     lay_down(file, b, output)
 }
 
-// The same of a file that has no ranges: what is left to test are the run indices.
-fn block_by_runs(file: &[u8], b: usize, output: &mut [u64]) -> FileAnswer
-    ensures { λ r. ⌜ r ≡ fileAnswer (runsBlockTests (now (file .entry)) b (now (output .entry))) ⌝ }
-    ensures { λ _. ⌜ now (output .exit) ≡ runsBlockLeaves (now (file .entry)) b (now (output .entry)) ⌝ }
+// Checks the file for one block out of it. The ranges are looked at behind all the run indices; where a file has no ranges the run indices of
+// block b can wait until that block is laid down.
+fn check_for(file: &[u8], b: usize) -> FileAnswer
+    ensures { λ r. ⌜ ((numberOf r ≡ 0 → ⊥) → r ≡ fileAnswer (fileTests (now (file .entry)))) ⌝ }
+    ensures { λ r. ⌜ (numberOf r ≡ 0 → fileAnswer (contentsTests (now (file .entry)) (length (now (file .entry)))) ≡ Done) ⌝ }
+    ensures { λ r. ⌜ (numberOf r ≡ 0 → firstBad (countIn (now (file .entry))) (λ i. either (eqb i b) (hasGoodRuns (entryOf (now (file .entry)) i) (bodyOf (now (file .entry)) i))) ≡ countIn (now (file .entry))) ⌝ }
+    ensures { λ r. ⌜ (numberOf r ≡ 0 → badRange (now (file .entry)) ≡ countIn (now (file .entry))) ⌝ }
 {
-    if output.len() != 1024 {
-        return FileAnswer::Block;
+    if edition(file) != 2 {
+        return check_but(file, b);
     }
-    let answer = check_but(file, b);
-    if answer.number() != 0 {
-        return answer;
-    }
-    if count(file) <= b {
-        return FileAnswer::Beyond;
-    }
-    lay_down(file, b, output)
+    check(file)
 }
 
 // Lays block b down, in a file whose contents are right. Where a run index is out of range, block_of finds it and writes nothing.

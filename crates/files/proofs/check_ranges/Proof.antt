@@ -22,7 +22,8 @@ edition-requires c κs = search needs
 returns : tie.Need-returns
 returns c =
     let start = c .before .before .before in
-    sym (other-ranges (now (start .args .file)) (λ e. c .if1 .taken (c .before .edition .ensures ∙ e)) (right start))
+    let l = now (start .args .file) in
+    sym (ranges-done l (other-ranges l (λ e. c .if1 .taken (c .before .edition .ensures ∙ e)) (right start)))
 
 false-range-requires : tie.Need-false-range-requires
 false-range-requires c κs =
