@@ -48,7 +48,8 @@ fn check_ranges(file: &[u8]) -> FileAnswer
         return FileAnswer::Done;
     }
     let bad = false_range(file);
-    if bad == count(file) {
+    let n = count(file);
+    if bad == n {
         return FileAnswer::Done;
     }
     FileAnswer::Range(bad)
