@@ -27,6 +27,7 @@ use Rattle.runs.proofs.Highs.{highest-bound, highest-below}
 use Rattle.contents.proofs.First.{first-le, first-before, first-at, first-only}
 use Rattle.bodies.specs.Ranges.{lowestOf}
 use Rattle.bodies.proofs.Lows.{lowest-bound}
+use Rattle.bodies.proofs.Ranges.{highest-stands}
 use Rattle.candidates.specs.Widths.{bits, widthOf}
 
 module _ (m : ℕ) where
@@ -79,18 +80,6 @@ width-fits l fits w = (
   where
     highest-element : (l : List ℕ) → Elements t64 l → highestOf l < 2 ^ 64
     highest-element l fits = highest-below (2 ^ 64) l (pow-pos 64) (λ i _. fits i)
-
--- The highest number of a list that is not empty stands in it.
-pub highest-stands : (xs : List ℕ) → 0 < length xs → (i : ℕ) × (i < length xs) × (getD xs i 0 ≡ highestOf xs)
-unfolding highestOf
-highest-stands [] h = absurd (not-suc-le-zero h)
-highest-stands (x ∷ []) h = (zero, h, omega arith)
-highest-stands (x ∷ y ∷ ys) h =
-    let rest = highest-stands (y ∷ ys) (suc-le-suc zero-le) in
-    elim (decLe (highestOf (y ∷ ys)) x) [
-      | yes low ↦ (zero, suc-le-suc zero-le, omega arith)
-      | no high ↦ (suc (rest .0), suc-le-suc (rest .1), rest .2 ∙ omega arith)
-    ]
 
 -- The highest number of the frame over the lowest one is the highest less the lowest.
 pub frame-highest : (v : List ℕ) → length v ≡ 1024 → Elements t64 v → highestOf (frameOf t64 v (lowestOf v)) ≡ highestOf v - lowestOf v
