@@ -1,7 +1,9 @@
-// One body of a column file against its entry, and the block that it stands for (document 02, Item 1). A program that holds the
-// contents of a file and one body at a time needs no more than this and the crate contents.
+// One body of a column file against its entry, and the block that it stands for (document 02, Item 1), with the smallest and the
+// largest value of a block (Item 9). A program that holds the contents of a file and one body at a time needs no more than this
+// and the crate contents.
 use contents::Entry;
 use contents::FileAnswer;
+use contents::Range;
 use deltas::t64::undelta_pack;
 use deltas::t64::unfor_pack;
 use little::read_pairs;
@@ -23,6 +25,7 @@ ghost use Rattle.runs.specs.Highest.{highestOf};
 ghost use Rattle.runs.specs.Runs.{decodeOf};
 ghost use Rattle.contents.specs.Answers.{good-runs, fileAnswer, numberOf};
 ghost use Rattle.contents.specs.Contents.{isLaidOut};
+ghost use Rattle.bodies.specs.Ranges.{lowestOf, isRange};
 ghost use Rattle.bodies.specs.Bodies.{runIndices, wordsFrom, packedFrom, blockOf, indexed, hasGoodRuns, bodyTests, blockTests, blockLeaves};
 
 // Whether the body is as its entry says.
@@ -52,6 +55,37 @@ pub fn block_of(e: Entry, body: &[u8], output: &mut [u64]) -> FileAnswer
         return answer;
     }
     lay_down(e, body, output)
+}
+
+// The smallest and the largest of the values, in one walk. Of no values they are the highest and the lowest of 64 bits.
+pub fn range_of(values: &[u64]) -> Range
+    ensures { λ r. ⌜ (r .smallest ≡ lowestOf (now (values .entry))) × (r .largest ≡ highestOf (now (values .entry))) ⌝ }
+{
+    let mut low: u64 = 18446744073709551615;
+    let mut high: u64 = 0;
+    let mut i = 0;
+    while i < values.len() {
+        let value = values[i];
+        if value < low {
+            low = value;
+        }
+        if high < value {
+            high = value;
+        }
+        i += 1;
+    }
+    Range {
+        smallest: low,
+        largest: high,
+    }
+}
+
+// Whether a range is the true one of the values.
+pub fn is_range(range: Range, values: &[u64]) -> bool
+    ensures { λ r. ⌜ r ≡ isRange range (now (values .entry)) ⌝ }
+{
+    let found = range_of(values);
+    (range.smallest == found.smallest) & (range.largest == found.largest)
 }
 
 // Whether the entry is as laid out and the body as long as it says. After this only the run indices are left to test.

@@ -32,10 +32,12 @@ use Rattle.candidates.specs.declared.Measures.{Measures}
 use Rattle.candidates.specs.Calls.{entryFor, layTests, laidOf, layLeaves, answerOf}
 use Rattle.candidates.specs.Candidates.{baseOf, differences, framed, chosen, bodyFor}
 use Rattle.candidates.specs.InnerMeasures.{measuresOf, shorterPart, wordsBy}
-use Rattle.candidates.specs.Widths.{bits, widthOf, lowestOf}
+use Rattle.bodies.specs.Ranges.{lowestOf}
+use Rattle.candidates.specs.Widths.{bits, widthOf}
 use Rattle.candidates.proofs.Choice.{length-base, body-sized, front-over}
 use Rattle.candidates.proofs.Filling.{base-first}
-use Rattle.candidates.proofs.Widths.{width-most, lowest-bound, frame-highest}
+use Rattle.bodies.proofs.Lows.{lowest-bound}
+use Rattle.candidates.proofs.Widths.{width-most, frame-highest}
 
 module _ (values : List ℕ) (long : length values ≡ 1024) where
   pub lowest-highest : lowestOf values ≤ highestOf values

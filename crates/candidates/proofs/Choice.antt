@@ -31,8 +31,10 @@ use Rattle.bodies.proofs.Bodies.{other-runs}
 use Rattle.candidates.specs.Candidates.{Candidate, plainAt, frameAt, stepsAt, plain, frame, steps, baseOf, differences, framed, shorter, chosen, bodyFor}
 use Rattle.candidates.specs.InnerMeasures.{measuresOf, shorterEntry, entryBy, shorterPart, wordsBy}
 use Rattle.candidates.specs.Restored.{candidateAt, packs, candidate}
-use Rattle.candidates.specs.Widths.{widthOf, lowestOf}
-use Rattle.candidates.proofs.Widths.{width-most, lowest-element}
+use Rattle.bodies.specs.Ranges.{lowestOf}
+use Rattle.candidates.specs.Widths.{widthOf}
+use Rattle.bodies.proofs.Lows.{lowest-element}
+use Rattle.candidates.proofs.Widths.{width-most}
 
 -- There is a base word for each lane.
 pub length-base : (values : List ℕ) → length (baseOf values) ≡ 16

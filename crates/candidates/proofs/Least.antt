@@ -29,9 +29,11 @@ use Rattle.bodies.specs.Bodies.{blockOf, wordsFrom, packedFrom}
 use Rattle.bodies.proofs.Bodies.{block-packed, block-frame, block-differences}
 use Rattle.candidates.specs.Candidates.{plainAt, frameAt, stepsAt, framed, baseOf, differences, chosen}
 use Rattle.candidates.specs.Restored.{restored, candidateAt, packs}
-use Rattle.candidates.specs.Widths.{widthOf, lowestOf}
+use Rattle.bodies.specs.Ranges.{lowestOf}
+use Rattle.candidates.specs.Widths.{widthOf}
 use Rattle.candidates.proofs.Choice.{length-base, Which, is-plain, is-frame, is-steps, which, chosen-candidate, chosen-kind, chosen-width}
-use Rattle.candidates.proofs.Widths.{width-fits, width-most, lowest-element}
+use Rattle.bodies.proofs.Lows.{lowest-element}
+use Rattle.candidates.proofs.Widths.{width-fits, width-most}
 
 -- The words of a body are read back from its bytes: those at the front,
 words-back : (words more : List ℕ) (n : ℕ) → Elements t64 words → length words ≡ n → wordsFrom (allBytes 8 (words ++ more)) 0 n ≡ words

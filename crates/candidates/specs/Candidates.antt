@@ -14,7 +14,8 @@ use Rattle.deltas.specs.Deltas.{deltaOf, frameOf, forPackOf}
 use Rattle.little.specs.Little.{allBytes}
 use Rattle.contents.specs.declared.Entry.{Entry}
 use Rattle.contents.specs.Contents.{packedSize}
-use Rattle.candidates.specs.Widths.{widthOf, lowestOf}
+use Rattle.bodies.specs.Ranges.{lowestOf}
+use Rattle.candidates.specs.Widths.{widthOf}
 
 -- A candidate is the entry that the contents would have, and the words of the body.
 pub record Candidate : Type 0 where

@@ -11,7 +11,8 @@ use Rattle.packing.specs.Packed.{packOf}
 use Rattle.deltas.specs.Deltas.{forPackOf}
 use Rattle.contents.specs.declared.Entry.{Entry}
 use Rattle.candidates.specs.declared.Measures.{Measures}
-use Rattle.candidates.specs.Widths.{widthOf, lowestOf}
+use Rattle.bodies.specs.Ranges.{lowestOf}
+use Rattle.candidates.specs.Widths.{widthOf}
 use Rattle.candidates.specs.Candidates.{packedEntry, framed, differences, baseOf}
 
 -- These are the lowest number and the widths of the three candidates.

@@ -1,8 +1,8 @@
--- The least width that holds a number, and that holds every number of a list, and the lowest number of a list (document 02, Item 3). The
--- highest number of a list stands in runs.
+-- The least width that holds a number, and that holds every number of a list (document 02, Item 3). The highest number of a list stands in
+-- runs, and the lowest in bodies.
 -- Assumes nothing.
-use mathlib.Core.List.{List, [], _∷_}
-use Prim.Native.Nat.{ℕ, _^_, min}
+use mathlib.Core.List.{List}
+use Prim.Native.Nat.{ℕ, _^_}
 use lib.Dec.{leb}
 use Rattle.runs.specs.Highest.{highestOf}
 use Rattle.contents.specs.First.{firstBad}
@@ -15,8 +15,3 @@ bits m = firstBad 64 (λ w. leb (2 ^ w) m)
 -- The least width that holds every number of a list is the one that holds the highest.
 unfoldable pub widthOf : (numbers : List ℕ) → ℕ
 widthOf numbers = bits (highestOf numbers)
-
--- This is the lowest number of the list, and where the list is empty the highest number of 64 bits.
-unfoldable pub lowestOf : List ℕ → ℕ
-lowestOf [] = 18446744073709551615
-lowestOf (x ∷ xs) = min x (lowestOf xs)

@@ -3,6 +3,7 @@
 // that restores the block. The shortest is chosen, and of two that are equally long the one of the lower kind.
 //
 // A body is a list of words until it is chosen, and the chosen one alone becomes bytes.
+use bodies::range_of;
 use contents::Entry;
 use contents::FileAnswer;
 use contents::no_entry;
@@ -20,12 +21,11 @@ ghost use Rattle.places.specs.Sizes.{t64};
 ghost use Rattle.places.specs.Tab.{over};
 ghost use Rattle.packing.specs.Packed.{packOf};
 ghost use Rattle.deltas.specs.Deltas.{forPackOf};
-ghost use Rattle.runs.specs.Highest.{highestOf};
 ghost use Rattle.little.specs.Little.{writeLeaves};
 ghost use Rattle.candidates.specs.Calls.{entryFor, laidOf, layLeaves, answerOf, entryLaid};
 ghost use Rattle.candidates.specs.Candidates.{packedEntry, baseOf, differences as differencesOf, chosen};
 ghost use Rattle.candidates.specs.InnerMeasures.{measuresOf, entryBy, shorterEntry, shorterPart, wordsBy};
-ghost use Rattle.candidates.specs.Widths.{bits, widthOf, lowestOf};
+ghost use Rattle.candidates.specs.Widths.{bits, widthOf};
 
 // The entry of a block that was laid down, or the refusal.
 pub enum Laid {
@@ -61,12 +61,6 @@ struct Measures {
     plain: usize,
     frame: usize,
     steps: usize,
-}
-
-// The lowest and the highest number of a list. Of no numbers they are the highest and the lowest of 64 bits.
-struct Ends {
-    low: u64,
-    high: u64,
 }
 
 // The entry of the candidate that is chosen for a block; one of no kind where there are not 1,024 numbers.
@@ -107,36 +101,13 @@ fn measure(values: &[u64], differences: &mut [u64]) -> Measures
     ensures { λ r. ⌜ r ≡ measuresOf (now (values .entry)) ⌝ }
     ensures { λ _. ⌜ now (differences .exit) ≡ differencesOf (now (values .entry)) ⌝ }
 {
-    let ends = ends_of(values);
+    let range = range_of(values);
     delta(values, &values[..16], differences);
     Measures {
-        low: ends.low,
-        plain: width_of(ends.high),
-        frame: width_of(ends.high - ends.low),
+        low: range.smallest,
+        plain: width_of(range.largest),
+        frame: width_of(range.largest - range.smallest),
         steps: width_of(any_bits(differences)),
-    }
-}
-
-// The lowest and the highest of the numbers, in one walk.
-fn ends_of(numbers: &[u64]) -> Ends
-    ensures { λ r. ⌜ (r .low ≡ lowestOf (now (numbers .entry))) × (r .high ≡ highestOf (now (numbers .entry))) ⌝ }
-{
-    let mut low: u64 = 18446744073709551615;
-    let mut high: u64 = 0;
-    let mut i = 0;
-    while i < numbers.len() {
-        let number = numbers[i];
-        if number < low {
-            low = number;
-        }
-        if high < number {
-            high = number;
-        }
-        i += 1;
-    }
-    Ends {
-        low: low,
-        high: high,
     }
 }
 

@@ -9,14 +9,14 @@ use native.Mathlib.Omega.{arith}
 use lib.Dec.{eqb, leb}
 use lib.ListN.{length}
 use borrow.Author.Tests.{le-leb, leb-true, eq-eqb, eqb-true}
-use Rattle.places.specs.Pick.{both}
+use Rattle.places.specs.Pick.{both, either}
 use Rattle.places.proofs.Tests.{both-true}
 use Rattle.contents.specs.declared.FileAnswer.the-variants.{Done}
 use Rattle.contents.specs.Answers.{FileTest, passes, fileAnswer}
-use Rattle.contents.specs.Contents.{edition, count, contentsSize, entryOf, isLaidOut, badEntry, bodyStart, contentsTests}
+use Rattle.contents.specs.Contents.{edition, count, contentsSize, entryOf, rangeOf, isLaidOut, isOrdered, isRight, badEntry, bodyStart, contentsTests}
 use Rattle.contents.specs.First.{firstBad}
 use Rattle.contents.proofs.Answers.{passed, stopped, none-left, refusal-not-done, in-front-done}
-use Rattle.contents.proofs.Checks.{entries-there, entries-done}
+use Rattle.contents.proofs.Checks.{Known, true-known, entries-there, entries-done}
 use Rattle.contents.proofs.First.{first-only, first-before}
 
 -- A call that is done has passed its first test, and is done with the others.
@@ -41,21 +41,31 @@ done-both xs ys e f = in-front-done xs ys e ∙ f
 -- The contents in l are those of a file of `size` bytes.
 pub record Whole (l : List ℕ) (size : ℕ) : Type 0 where
   pub head : 4 ≤ length l
-  pub first : edition l ≡ 1
+  pub first : Known (edition l)
   pub few : count l ≤ 256
-  pub room : contentsSize (count l) ≤ length l
-  pub laid : (i : ℕ) → i < count l → isLaidOut (entryOf l i) ≡ true
+  pub room : contentsSize (edition l) (count l) ≤ length l
+  pub right : (i : ℕ) → i < count l → isRight l i ≡ true
   pub end : bodyStart l (count l) ≡ size
 
-module _ (l : List ℕ) (size : ℕ) where
-  -- Where every entry is as laid out, none is the lowest bad one, and the other way round.
-  none-bad : ((i : ℕ) → i < count l → isLaidOut (entryOf l i) ≡ true) → badEntry l ≡ count l
-  unfolding badEntry
-  none-bad laid = sym (first-only (count l) (count l) (λ i. isLaidOut (entryOf l i)) (omega arith) laid (λ h. absurd (omega arith)))
+-- Every entry is as laid out, and its smallest value is not above its largest.
+module _ {l : List ℕ} {size : ℕ} (w : Whole l size) where
+  pub whole-laid : (i : ℕ) → i < count l → isLaidOut (entryOf l i) ≡ true
+  unfolding isRight
+  whole-laid i h = both-true (isLaidOut (entryOf l i)) (isOrdered (rangeOf l i)) (w .right i h) .0
 
-  all-laid : badEntry l ≡ count l → (i : ℕ) → i < count l → isLaidOut (entryOf l i) ≡ true
+  pub whole-ordered : (i : ℕ) → i < count l → isOrdered (rangeOf l i) ≡ true
+  unfolding isRight
+  whole-ordered i h = both-true (isLaidOut (entryOf l i)) (isOrdered (rangeOf l i)) (w .right i h) .1
+
+module _ (l : List ℕ) (size : ℕ) where
+  -- Where every entry is right, none is the lowest bad one, and the other way round.
+  none-bad : ((i : ℕ) → i < count l → isRight l i ≡ true) → badEntry l ≡ count l
   unfolding badEntry
-  all-laid e i h = first-before (count l) (λ i. isLaidOut (entryOf l i)) i (omega arith)
+  none-bad right = sym (first-only (count l) (count l) (isRight l) (omega arith) right (λ h. absurd (omega arith)))
+
+  all-right : badEntry l ≡ count l → (i : ℕ) → i < count l → isRight l i ≡ true
+  unfolding badEntry
+  all-right e i h = first-before (count l) (isRight l) i (omega arith)
 
   pub accepted : fileAnswer (contentsTests l size) ≡ Done → Whole l size
   accepted done =
@@ -65,19 +75,19 @@ module _ (l : List ℕ) (size : ℕ) where
       let t3 = done-first _ _ (t2 .1) in
       let t4 = done-first _ _ (t3 .1) in
       let t5 = done-first _ _ (t4 .1) in
-      let e = both-true (eqb (edition l) 1) (leb (count l) 256) (t1 .0) in
+      let e = both-true (either (eqb (edition l) 1) (eqb (edition l) 2)) (leb (count l) 256) (t1 .0) in
       let low : bodyStart l (count l) ≤ size = leb-true (bodyStart l (count l)) size (t4 .0) in
       let high : size ≤ bodyStart l (count l) = leb-true size (bodyStart l (count l)) (t5 .0) in
       record {
         head = leb-true 4 (length l) (t0 .0);
-        first = eqb-true (edition l) 1 (e .0);
+        first = true-known (edition l) (e .0);
         few = leb-true (count l) 256 (e .1);
-        room = leb-true (contentsSize (count l)) (length l) (t2 .0);
-        laid = all-laid (eqb-true (badEntry l) (count l) (t3 .0));
+        room = leb-true (contentsSize (edition l) (count l)) (length l) (t2 .0);
+        right = all-right (eqb-true (badEntry l) (count l) (t3 .0));
         end = omega arith;
       }
 
   pub accepts : Whole l size → fileAnswer (contentsTests l size) ≡ Done
   accepts w =
       entries-there l size (w .head) (w .first) (w .few) (w .room)
-      ∙ entries-done l size (none-bad (w .laid)) (omega (arith, w .end)) (omega (arith, w .end))
+      ∙ entries-done l size (none-bad (w .right)) (omega (arith, w .end)) (omega (arith, w .end))

@@ -1,22 +1,73 @@
 -- The laws of entries and of the bodies' lengths: an entry that is there, and that each body ends within all of them.
 -- Assumes nothing.
-use mathlib.Core.Path.{_≡_, ap}
+use mathlib.Core.Bool.{Bool, true, false}
+use mathlib.Core.Path.{_≡_, sym, ap, ap₂, _∙_}
 use mathlib.Core.List.{List}
 use Prim.Native.Nat.{ℕ, zero, suc, _+_, _-_, _≤_, _<_}
+use native.Mathlib.Decide.{decLe}
 use native.Mathlib.Nat.{add-zero, add-suc}
+use native.Mathlib.Numerals.{add-one}
 use native.Mathlib.Omega.{arith}
+use lib.Dec.{leb}
 use lib.ListN.{length}
-use borrow.Author.Tests.{le-leb, lt-leb}
-use Rattle.contents.specs.Contents.{contentsSize, entryOf, noEntry, entryOr, bodiesSize}
+use borrow.Author.Tests.{le-leb, lt-leb, eq-eqb, ne-eqb, leb-true, leb-false}
+use Rattle.contents.specs.Contents.{edition, contentsSize, entryOf, noEntry, entryOr, rangeAt, anyRange, rangeOf, rangeOr, editionOr, bodiesSize}
+use Rattle.little.proofs.Little.{little-within}
+use Rattle.contents.proofs.Sizes.{size-least}
 
 module _ (l : List ℕ) (i : ℕ) where
-  pub entry-there : contentsSize (suc i) ≤ length l → entryOr l i ≡ entryOf l i
+  pub entry-there : contentsSize (edition l) (suc i) ≤ length l → entryOr l i ≡ entryOf l i
   unfolding entryOr
-  entry-there h = simp (le-leb (contentsSize (suc i)) (length l) h)
+  entry-there h = simp (le-leb (contentsSize (edition l) (suc i)) (length l) h)
 
-  pub entry-missing : length l < contentsSize (suc i) → entryOr l i ≡ noEntry
+  pub entry-missing : length l < contentsSize (edition l) (suc i) → entryOr l i ≡ noEntry
   unfolding entryOr
-  entry-missing h = simp (lt-leb (contentsSize (suc i)) (length l) h)
+  entry-missing h = simp (lt-leb (contentsSize (edition l) (suc i)) (length l) h)
+
+  pub range-there : contentsSize (edition l) (suc i) ≤ length l → rangeOr l i ≡ rangeOf l i
+  unfolding rangeOr
+  range-there h = simp (le-leb (contentsSize (edition l) (suc i)) (length l) h)
+
+  pub range-missing : length l < contentsSize (edition l) (suc i) → rangeOr l i ≡ anyRange
+  unfolding rangeOr
+  range-missing h = simp (lt-leb (contentsSize (edition l) (suc i)) (length l) h)
+
+  -- In edition 2 the range stands behind the first sixteen bytes, and in edition 1 there is none.
+  pub range-second : edition l ≡ 2 → rangeOf l i ≡ rangeAt l (contentsSize (edition l) i + 16)
+  unfolding rangeOf
+  range-second h = simp (eq-eqb (edition l) 2 h)
+
+  pub range-other : (edition l ≡ 2 → ⊥) → rangeOf l i ≡ anyRange
+  unfolding rangeOf
+  range-other h = simp (ne-eqb (edition l) 2 h)
+
+-- The edition that is read is that of the file, where its bytes are there.
+pub edition-there : (l : List ℕ) → 2 ≤ length l → editionOr l ≡ edition l
+edition-there l h = little-within l 0 2 (omega arith)
+
+-- Whether an entry is there does not hang on that: a file of less than two bytes has none.
+pub entry-test : (l : List ℕ) (i : ℕ) → leb (contentsSize (editionOr l) (i + 1)) (length l) ≡ leb (contentsSize (edition l) (suc i)) (length l)
+entry-test l i =
+    elim (decLe 2 (length l)) [
+      | yes h ↦ ap₂ (λ e k. leb (contentsSize e k) (length l)) (edition-there l h) (add-one i)
+      | no h ↦
+          lt-leb (contentsSize (editionOr l) (i + 1)) (length l) (omega (arith, size-least (editionOr l) (i + 1)))
+          ∙ sym (lt-leb (contentsSize (edition l) (suc i)) (length l) (omega (arith, size-least (edition l) (suc i))))
+    ]
+
+-- By the test with the edition that was read an entry is there, and then that is the file's edition, or it is not there.
+module _ (l : List ℕ) (i : ℕ) {e : ℕ} (read : e ≡ editionOr l) {test : Bool} (tests : test ≡ leb (contentsSize e (i + 1)) (length l)) where
+  same-test : test ≡ leb (contentsSize (edition l) (suc i)) (length l)
+  same-test = tests ∙ ap (λ e. leb (contentsSize e (i + 1)) (length l)) read ∙ entry-test l i
+
+  pub entry-found : test ≡ true → contentsSize (edition l) (suc i) ≤ length l
+  entry-found h = leb-true (contentsSize (edition l) (suc i)) (length l) (sym same-test ∙ h)
+
+  pub entry-lost : test ≡ false → length l < contentsSize (edition l) (suc i)
+  entry-lost h = leb-false (contentsSize (edition l) (suc i)) (length l) (sym same-test ∙ h)
+
+  pub edition-found : test ≡ true → e ≡ edition l
+  edition-found h = read ∙ edition-there l (omega (arith, entry-found h, size-least (edition l) (suc i)))
 
 grow : (l : List ℕ) (k m : ℕ) → bodiesSize l k ≤ bodiesSize l (k + m)
 unfolding bodiesSize

@@ -1,20 +1,25 @@
--- A front of a file tells of its contents what the whole file does, if it has them: its first 4,100 bytes, or all of it where it has fewer. So
+-- A front of a file tells of its contents what the whole file does, if it has them: its first 8,196 bytes, or all of it where it has fewer. So
 -- a program that holds no more than that gets the whole file's answer, its count and its entries.
 -- Assumes nothing.
 use mathlib.Core.List.{List, [], _∷_}
+use mathlib.Core.Logic.{inl, inr}
 use mathlib.Core.Path.{_≡_, refl, sym, ap, ap₂, subst, _∙_}
 use Prim.Native.Nat.{ℕ, zero, suc, _+_, _*_, _≤_, _<_}
-use native.Mathlib.Decide.{decLe, ℕ-discrete}
+use native.Mathlib.Decide.{decLe}
+use native.Mathlib.Numerals.{add-one}
 use native.Mathlib.Omega.{arith}
+use lib.Dec.{eqb}
 use lib.ListN.{length, getD, take, length-take}
 use lib.Seq.{getD-take}
+use Rattle.places.specs.Pick.{pick, both}
 use Rattle.little.specs.Little.{little}
 use Rattle.contents.specs.Answers.{laid-out, enough, an-end, fileAnswer}
-use Rattle.contents.specs.Contents.{edition, count, contentsSize, entryOf, entryOr, isLaidOut, badEntry, bodiesSize, bodyStart, entriesTests, contentsTests}
+use Rattle.contents.specs.Contents.{edition, count, contentsSize, entryAt, entryOf, entryOr, rangeAt, anyRange, rangeOf, rangeOr, isLaidOut, isOrdered, isRight, badEntry, bodiesSize, bodyStart, entriesTests, contentsTests}
 use Rattle.contents.specs.First.{firstBad}
-use Rattle.contents.proofs.Checks.{short-head, other-edition, many-blocks, short-entries, entries-there}
-use Rattle.contents.proofs.Entries.{entry-there}
+use Rattle.contents.proofs.Checks.{Known, known-or-not, short-head, other-edition, many-blocks, short-entries, entries-there}
+use Rattle.contents.proofs.Entries.{entry-there, range-there}
 use Rattle.contents.proofs.First.{first-ext}
+use Rattle.contents.proofs.Sizes.{size-before, size-most}
 
 -- A number is the same in a front that has its bytes.
 little-front : (l : List ℕ) (k at n : ℕ) → at + n ≤ k → little (take k l) at n ≡ little l at n
@@ -22,7 +27,7 @@ unfolding little
 little-front l k at zero h = refl
 little-front l k at (suc n) h = ap₂ (λ x y. x + y * 256) (getD-take k l at 0 (omega arith)) (little-front l k (suc at) n (omega arith))
 
-module _ (l : List ℕ) (k : ℕ) (h : 4100 ≤ k) where
+module _ (l : List ℕ) (k : ℕ) (h : 8196 ≤ k) where
   -- a front is as long as the file, or has k bytes
   front-length : (n : ℕ) → n ≤ k → (n ≤ length (take k l) → n ≤ length l) × (n ≤ length l → n ≤ length (take k l))
   front-length n m = ((λ e. omega (arith, length-take k l)), (λ e. omega (arith, length-take k l)))
@@ -36,14 +41,29 @@ module _ (l : List ℕ) (k : ℕ) (h : 4100 ≤ k) where
   pub entry-front : (i : ℕ) → i < 256 → entryOf (take k l) i ≡ entryOf l i
   unfolding entryOf
   entry-front i b =
-      let at : ℕ = 4 + i * 16 in
-      λ j. record {
+      let at : ℕ = contentsSize (edition l) i in
+      let low : at ≤ 4 + i * 32 = size-most (edition l) i in
+      ap (λ e. entryAt (take k l) (contentsSize e i)) edition-front
+      ∙ (λ j. record {
         kind = getD-take k l at 0 (omega arith) j;
         width = getD-take k l (at + 1) 0 (omega arith) j;
         zero = little-front l k (at + 2) 2 (omega arith) j;
         length = little-front l k (at + 4) 4 (omega arith) j;
         reference = little-front l k (at + 8) 8 (omega arith) j;
-      }
+      })
+
+  pub range-front : (i : ℕ) → i < 256 → rangeOf (take k l) i ≡ rangeOf l i
+  unfolding rangeOf
+  range-front i b =
+      let at : ℕ = contentsSize (edition l) i + 16 in
+      let low : contentsSize (edition l) i ≤ 4 + i * 32 = size-most (edition l) i in
+      ap (λ e. pick (eqb e 2) (rangeAt (take k l) (contentsSize e i + 16)) anyRange) edition-front
+      ∙ ap (λ r. pick (eqb (edition l) 2) r anyRange)
+      (λ j. record { smallest = little-front l k at 8 (omega arith) j; largest = little-front l k (at + 8) 8 (omega arith) j })
+
+  right-front : (i : ℕ) → i < 256 → isRight (take k l) i ≡ isRight l i
+  unfolding isRight
+  right-front i b = ap₂ (λ e r. both (isLaidOut e) (isOrdered r)) (entry-front i b) (range-front i b)
 
   sizes-front : (n : ℕ) → n ≤ 256 → bodiesSize (take k l) n ≡ bodiesSize l n
   unfolding bodiesSize
@@ -53,18 +73,23 @@ module _ (l : List ℕ) (k : ℕ) (h : 4100 ≤ k) where
   module _ (few : count l ≤ 256) where
     start-front : bodyStart (take k l) (count (take k l)) ≡ bodyStart l (count l)
     unfolding bodyStart
-    start-front = ap₂ (λ n s. contentsSize n + s) count-front (ap (bodiesSize (take k l)) count-front ∙ sizes-front (count l) few)
+    start-front =
+        ap₂ (λ e n. contentsSize e n + bodiesSize (take k l) (count (take k l))) edition-front count-front
+        ∙ ap (λ s. contentsSize (edition l) (count l) + s) (ap (bodiesSize (take k l)) count-front ∙ sizes-front (count l) few)
 
     bad-front : badEntry (take k l) ≡ badEntry l
     unfolding badEntry
     bad-front =
-        ap (λ n. firstBad n (λ i. isLaidOut (entryOf (take k l) i))) count-front
-        ∙ first-ext (count l) (λ i. isLaidOut (entryOf (take k l) i)) (λ i. isLaidOut (entryOf l i)) (λ i b. ap isLaidOut (entry-front i (omega arith)))
+        ap (λ n. firstBad n (isRight (take k l))) count-front
+        ∙ first-ext (count l) (isRight (take k l)) (isRight l) (λ i b. right-front i (omega arith))
 
     entries-front : (size : ℕ) → fileAnswer (entriesTests (take k l) size) ≡ fileAnswer (entriesTests l size)
     entries-front size =
         ap₂ (λ b s. fileAnswer (laid-out b (count (take k l)) ∷ enough s size ∷ an-end s size ∷ [])) bad-front start-front
         ∙ ap (λ c. fileAnswer (laid-out (badEntry l) c ∷ enough (bodyStart l (count l)) size ∷ an-end (bodyStart l (count l)) size ∷ [])) count-front
+
+  contents-size : contentsSize (edition (take k l)) (count (take k l)) ≡ contentsSize (edition l) (count l)
+  contents-size = ap₂ contentsSize edition-front count-front
 
   -- The front gets the file's answer,
   pub contents-front : (size : ℕ) → fileAnswer (contentsTests (take k l) size) ≡ fileAnswer (contentsTests l size)
@@ -72,21 +97,30 @@ module _ (l : List ℕ) (k : ℕ) (h : 4100 ≤ k) where
       elim (decLe 4 (length l)) [
         | no s ↦ short-head (take k l) size (omega (arith, length-take k l)) ∙ sym (short-head l size (omega arith))
         | yes s ↦ let there : 4 ≤ length (take k l) = front-length 4 (omega arith) .1 s in
-            elim (ℕ-discrete (edition l) 1) [
-              | no o ↦ other-edition (take k l) size there (λ e. o (sym edition-front ∙ e)) ∙ sym (other-edition l size s o)
-              | yes f ↦ let first : edition (take k l) ≡ 1 = edition-front ∙ f in
+            elim (known-or-not (edition l)) [
+              | inr o ↦ other-edition (take k l) size there (λ e. o .0 (sym edition-front ∙ e)) (λ e. o .1 (sym edition-front ∙ e)) ∙ sym (other-edition l size s (o .0) (o .1))
+              | inl f ↦ let first : Known (edition (take k l)) = subst Known (sym edition-front) f in
                   elim (decLe (count l) 256) [
                     | no m ↦ many-blocks (take k l) size there (omega (arith, count-front)) ∙ sym (many-blocks l size s (omega arith))
                     | yes few ↦ let few′ : count (take k l) ≤ 256 = omega (arith, count-front) in
-                        elim (decLe (contentsSize (count l)) (length l)) [
-                          | no c ↦ short-entries (take k l) size there first few′ (omega (arith, count-front, length-take k l)) ∙ sym (short-entries l size s f few (omega arith))
-                          | yes c ↦ entries-there (take k l) size there first few′ (omega (arith, count-front, length-take k l)) ∙ entries-front few size ∙ sym (entries-there l size s f few c)
+                        elim (decLe (contentsSize (edition l) (count l)) (length l)) [
+                          | no c ↦ short-entries (take k l) size there first few′ (omega (arith, contents-size, size-most (edition l) (count l), length-take k l)) ∙ sym (short-entries l size s f few (omega arith))
+                          | yes c ↦ entries-there (take k l) size there first few′ (omega (arith, contents-size, size-most (edition l) (count l), length-take k l)) ∙ entries-front few size ∙ sym (entries-there l size s f few c)
                         ]
                   ]
             ]
       ]
 
-  -- and each entry of a file whose entries are there.
-  pub entry-or-front : count l ≤ 256 → contentsSize (count l) ≤ length l → (i : ℕ) → i < count l → entryOr (take k l) i ≡ entryOf l i
+  there-front : count l ≤ 256 → contentsSize (edition l) (count l) ≤ length l → (i : ℕ) → i < count l → contentsSize (edition (take k l)) (suc i) ≤ length (take k l)
+  there-front few room i b =
+      let size = ap₂ contentsSize edition-front (sym (add-one i)) in
+      omega (arith, size, size-before (edition l) i (count l) b, size-most (edition l) (count l), length-take k l)
+
+  -- and each entry of a file whose entries are there,
+  pub entry-or-front : count l ≤ 256 → contentsSize (edition l) (count l) ≤ length l → (i : ℕ) → i < count l → entryOr (take k l) i ≡ entryOf l i
   entry-or-front few room i b =
-      entry-there (take k l) i (omega (arith, length-take k l)) ∙ entry-front i (omega arith)
+      entry-there (take k l) i (there-front few room i b) ∙ entry-front i (omega arith)
+
+  -- with its range.
+  pub range-or-front : count l ≤ 256 → contentsSize (edition l) (count l) ≤ length l → (i : ℕ) → i < count l → rangeOr (take k l) i ≡ rangeOf l i
+  range-or-front few room i b = range-there (take k l) i (there-front few room i b) ∙ range-front i (omega arith)

@@ -6,3 +6,4 @@ pub mod Entries
 pub mod First
 pub mod Fronts
 pub mod Laid
+pub mod Sizes

@@ -1,5 +1,5 @@
--- What a call on a column file answers: document 02's numbers and places, the tests that it makes (Items 1 and 3, "Refusals, in
--- order"), and what it leaves in a lent buffer. The tests of a call stand in a list, in the order of its item, which is not that of the numbers.
+-- What a call on a column file answers: document 02's numbers and places, the tests that it makes (Items 1, 3 and 9,
+-- "Refusals, in order"), and what it leaves in a lent buffer. The tests of a call stand in a list, in the order of its item, which is not that of the numbers.
 -- Assumes nothing.
 use mathlib.Core.Bool.{Bool}
 use mathlib.Core.List.{List}
@@ -7,9 +7,9 @@ use Prim.Native.Nat.{ℕ, _%_}
 use lib.Dec.{eqb, leb, ltb}
 use lib.ListN.{length}
 use Rattle.places.specs.Answers.{firstRefusal}
-use Rattle.places.specs.Pick.{pick, both}
+use Rattle.places.specs.Pick.{pick, both, either}
 use Rattle.contents.specs.declared.FileAnswer.{FileAnswer}
-use Rattle.contents.specs.declared.FileAnswer.the-variants.{Done, Block, Cut, Edition, BadEntry, Over, Beyond, Runs, Room}
+use Rattle.contents.specs.declared.FileAnswer.the-variants.{Done, Block, Cut, Edition, BadEntry, Over, Beyond, Runs, Room, Range}
 
 -- Each case of an answer has a number.
 abbrev pub numberOf : FileAnswer → ℕ
@@ -22,8 +22,10 @@ numberOf Over = 11
 numberOf Beyond = 12
 numberOf (Runs p) = 13
 numberOf Room = 14
+numberOf (Range p) = 15
 
--- With the number a place is returned. It is 0 for every number but 10, whose place is the entry, and 13, whose place is the block.
+-- With the number a place is returned. It is 0 for every number but 10, whose place is the entry, and 13 and 15, whose place is the
+-- block.
 abbrev pub placeOf : FileAnswer → ℕ
 placeOf Done = 0
 placeOf Block = 0
@@ -34,6 +36,7 @@ placeOf Over = 0
 placeOf Beyond = 0
 placeOf (Runs p) = p
 placeOf Room = 0
+placeOf (Range p) = p
 
 -- These are the things that a call on a file tests.
 pub data FileTest : Type 0 where
@@ -41,7 +44,7 @@ pub data FileTest : Type 0 where
   a-block : (block : List ℕ) → FileTest
   -- There are as many bytes as are needed.
   enough : (needed there : ℕ) → FileTest
-  -- The edition is 1, and there are at most 256 blocks.
+  -- The edition is 1 or 2, and there are at most 256 blocks.
   an-edition : (edition count : ℕ) → FileTest
   -- Every entry is as laid out. `lowest` is the lowest that is not, and the count where there is none.
   laid-out : (lowest count : ℕ) → FileTest
@@ -51,20 +54,23 @@ pub data FileTest : Type 0 where
   a-number : (asked count : ℕ) → FileTest
   -- Every run index is in range. `lowest` is the lowest block that has another one, and the count where there is none.
   good-runs : (lowest count : ℕ) → FileTest
+  -- Every smallest and largest value is the body's true one. `lowest` is the lowest block where one is not, and the count where there is none.
+  true-ranges : (lowest count : ℕ) → FileTest
   -- So many numbers are whole blocks, and these are at most 256.
   whole-blocks : (numbers : ℕ) → FileTest
-  -- The output has room for as many bytes as are needed.
+  -- The output has room for as many bytes, or rows, as are needed.
   a-room : (needed there : ℕ) → FileTest
 
 -- This is the test itself.
 abbrev pub passes : FileTest → Bool
 passes (a-block block) = eqb (length block) 1024
 passes (enough needed there) = leb needed there
-passes (an-edition edition count) = both (eqb edition 1) (leb count 256)
+passes (an-edition edition count) = both (either (eqb edition 1) (eqb edition 2)) (leb count 256)
 passes (laid-out lowest count) = eqb lowest count
 passes (an-end end there) = leb there end
 passes (a-number asked count) = ltb asked count
 passes (good-runs lowest count) = eqb lowest count
+passes (true-ranges lowest count) = eqb lowest count
 passes (whole-blocks numbers) = both (eqb (numbers % 1024) 0) (leb numbers 262144)
 passes (a-room needed there) = leb needed there
 
@@ -77,6 +83,7 @@ refusal (laid-out lowest count) = BadEntry lowest
 refusal (an-end end there) = Over
 refusal (a-number asked count) = Beyond
 refusal (good-runs lowest count) = Runs lowest
+refusal (true-ranges lowest count) = Range lowest
 refusal (whole-blocks numbers) = Block
 refusal (a-room needed there) = Room
 

@@ -1,5 +1,5 @@
--- The contents of a column file (document 02, Item 1): edition, block count, and an entry for each block. Then when an entry is as laid out,
--- where each body stands, and what is tested of the contents.
+-- The contents of a column file (document 02, Items 1 and 9): edition, block count, and an entry for each block, in edition 2 with the block's
+-- smallest and largest value. Then when an entry is as laid out, where each body stands, and what is tested of the contents.
 --
 -- `l` is the front of a file, of which the contents are the first bytes; the whole file is its own front.
 -- Assumes nothing.
@@ -11,6 +11,7 @@ use lib.ListN.{length, getD}
 use Rattle.places.specs.Pick.{pick, both}
 use Rattle.little.specs.Little.{little, littleOr}
 use Rattle.contents.specs.declared.Entry.{Entry}
+use Rattle.contents.specs.declared.Range.{Range}
 use Rattle.contents.specs.Answers.{FileTest, enough, an-edition, laid-out, an-end}
 use Rattle.contents.specs.First.{firstBad}
 
@@ -22,15 +23,15 @@ edition l = little l 0 2
 abbrev pub count : List ℕ → ℕ
 count l = little l 2 2
 
--- An entry has sixteen bytes.
-abbrev pub entrySize : ℕ
-entrySize = 16
+-- An entry has sixteen bytes, and in edition 2 sixteen more.
+unfoldable pub entrySize : (edition : ℕ) → ℕ
+entrySize e = pick (eqb e 2) 32 16
 
 -- Contents of n entries have so many bytes, and entry n would stand behind them.
-abbrev pub contentsSize : (n : ℕ) → ℕ
-contentsSize n = 4 + n * entrySize
+unfoldable pub contentsSize : (edition n : ℕ) → ℕ
+contentsSize e n = 4 + n * entrySize e
 
--- The sixteen bytes from place `at` on are this entry.
+-- The first sixteen bytes of an entry, from place `at` on, are this.
 abbrev pub entryAt : (l : List ℕ) (at : ℕ) → Entry
 entryAt l at = record {
   kind = getD l at 0;
@@ -42,7 +43,23 @@ entryAt l at = record {
 
 -- This is entry i.
 unfoldable pub entryOf : (l : List ℕ) (i : ℕ) → Entry
-entryOf l i = entryAt l (contentsSize i)
+entryOf l i = entryAt l (contentsSize (edition l) i)
+
+-- The sixteen bytes from place `at` on are a smallest and a largest value.
+abbrev pub rangeAt : (l : List ℕ) (at : ℕ) → Range
+rangeAt l at = record { smallest = little l at 8; largest = little l (at + 8) 8 }
+
+-- From 0 to the highest number of 64 bits is the range of a block of which the contents say none.
+abbrev pub anyRange : Range
+anyRange = record { smallest = 0; largest = 18446744073709551615 }
+
+-- This is the range that entry i says: in edition 2 its last sixteen bytes, and in edition 1 every number.
+unfoldable pub rangeOf : (l : List ℕ) (i : ℕ) → Range
+rangeOf l i = pick (eqb (edition l) 2) (rangeAt l (contentsSize (edition l) i + 16)) anyRange
+
+-- This test says that the smallest is not above the largest.
+abbrev pub isOrdered : (r : Range) → Bool
+isOrdered r = leb (r .smallest) (r .largest)
 
 -- This is the body's length that a packed block of width w asks for, behind `more` bytes.
 abbrev pub packedSize : (more w : ℕ) → ℕ
@@ -68,9 +85,13 @@ isOfKind e =
 unfoldable pub isLaidOut : (e : Entry) → Bool
 isLaidOut e = both (eqb (e .zero) 0) (isOfKind e)
 
--- This is the lowest entry that is not as laid out, and the count where there is none.
+-- Entry i of a file is right where it is as laid out and the smallest value that it says is not above the largest.
+unfoldable pub isRight : (l : List ℕ) (i : ℕ) → Bool
+isRight l i = both (isLaidOut (entryOf l i)) (isOrdered (rangeOf l i))
+
+-- This is the lowest entry that is not right, and the count where there is none.
 unfoldable pub badEntry : List ℕ → ℕ
-badEntry l = firstBad (count l) (λ i. isLaidOut (entryOf l i))
+badEntry l = firstBad (count l) (isRight l)
 
 -- The bodies of the first n entries have so many bytes.
 unfoldable pub bodiesSize : (l : List ℕ) (n : ℕ) → ℕ
@@ -79,7 +100,7 @@ bodiesSize l (suc n) = bodiesSize l n + entryOf l n .length
 
 -- Body i begins behind the contents and the bodies before it, so the file ends where body number `count` would begin.
 unfoldable pub bodyStart : (l : List ℕ) (i : ℕ) → ℕ
-bodyStart l i = contentsSize (count l) + bodiesSize l i
+bodyStart l i = contentsSize (edition l) (count l) + bodiesSize l i
 
 -- These are the tests of the entries, for a file of `size` bytes of which l is the front.
 abbrev pub entriesTests : (l : List ℕ) (size : ℕ) → List FileTest
@@ -94,7 +115,7 @@ abbrev pub contentsTests : (l : List ℕ) (size : ℕ) → List FileTest
 contentsTests l size =
     enough 4 (length l)
     ∷ an-edition (edition l) (count l)
-    ∷ enough (contentsSize (count l)) (length l)
+    ∷ enough (contentsSize (edition l) (count l)) (length l)
     ∷ entriesTests l size
 
 -- Where an entry is not there, this stands for it. It is of no kind, so it is not as laid out.
@@ -103,7 +124,15 @@ noEntry = record { kind = 255; width = 0; zero = 0; length = 0; reference = 0 }
 
 -- This is entry i where its bytes are all there, and else no entry.
 unfoldable pub entryOr : (l : List ℕ) (i : ℕ) → Entry
-entryOr l i = pick (leb (contentsSize (suc i)) (length l)) (entryOf l i) noEntry
+entryOr l i = pick (leb (contentsSize (edition l) (suc i)) (length l)) (entryOf l i) noEntry
+
+-- This is the range of entry i where its bytes are all there, and else every number.
+unfoldable pub rangeOr : (l : List ℕ) (i : ℕ) → Range
+rangeOr l i = pick (leb (contentsSize (edition l) (suc i)) (length l)) (rangeOf l i) anyRange
+
+-- This is the edition where its bytes are all there, and else 0.
+abbrev pub editionOr : List ℕ → ℕ
+editionOr l = littleOr l 0 2
 
 -- This is the block count where its bytes are all there, and else 0.
 abbrev pub countOr : List ℕ → ℕ

@@ -1,6 +1,7 @@
-// The contents of a column file (document 02, Item 1): edition, block count, and an entry for each block. Here they are read
-// and tested against the file's length, and nothing else of the file is needed for that: a program that holds no more than
-// the front of a file can ask here whether the file's contents are right. Item 3 writes them with the calls that begin with put.
+// The contents of a column file (document 02, Items 1 and 9): edition, block count, and an entry for each block, in edition 2
+// with the block's smallest and largest value. Here they are read and tested against the file's length, and nothing else of
+// the file is needed for that: a program that holds no more than the front of a file can ask here whether the file's contents
+// are right. The calls that begin with put write them, as edition 2.
 //
 // FileAnswer, what every call on a column file answers, stands here too.
 use little::pair;
@@ -10,11 +11,12 @@ use little::put_word;
 use little::quad;
 use little::word;
 ghost use mathlib.Core.Path.{_≡_};
-ghost use Prim.Native.Nat.{_+_, _*_, _≤_};
+ghost use Prim.Native.Nat.{_+_, _*_, _≤_, _<_};
+ghost use lib.Dec.{leb};
 ghost use lib.ListN.{length};
 ghost use Rattle.contents.specs.Answers.{numberOf, placeOf, fileAnswer};
-ghost use Rattle.contents.specs.Contents.{count as countIn, contentsSize, entryOf, entryOr, noEntry, countOr, isPacked, isRuns, isOfKind, isLaidOut, bodiesSize, entriesTests, contentsTests};
-ghost use Rattle.contents.specs.Bytes.{headLeaves, entryLeaves};
+ghost use Rattle.contents.specs.Contents.{edition as editionIn, count as countIn, contentsSize, entryAt, entryOf, entryOr, rangeAt, rangeOr, anyRange, rangeOf as rangeIn, noEntry, editionOr, countOr, isPacked, isRuns, isOfKind, isLaidOut, isOrdered, isRight, bodiesSize, entriesTests, contentsTests};
+ghost use Rattle.contents.specs.Bytes.{headLeaves, firstLeaves, entryLeaves};
 ghost use Rattle.contents.specs.First.{firstBad};
 
 // What a call on a file answers: that it is done, or why it is refused.
@@ -24,7 +26,7 @@ pub enum FileAnswer {
     Block,
     // the file is cut short: in its first four bytes, in the entries or in the bodies
     Cut,
-    // the edition is not 1, or there are more than 256 blocks
+    // the edition is neither 1 nor 2, or there are more than 256 blocks
     Edition,
     // an entry is not as laid out; the lowest such entry
     BadEntry(usize),
@@ -34,8 +36,10 @@ pub enum FileAnswer {
     Beyond,
     // a run index is out of range; the lowest block that has one
     Runs(usize),
-    // the output is shorter than what is to be written: the file, or one body of it
+    // the output is shorter than what is to be written: the file, one body of it, or the rows that were found
     Room,
+    // a smallest or largest value is not the body's true one; the lowest block that has one
+    Range(usize),
 }
 
 impl FileAnswer {
@@ -53,6 +57,7 @@ impl FileAnswer {
             FileAnswer::Beyond => 12,
             FileAnswer::Runs(_) => 13,
             FileAnswer::Room => 14,
+            FileAnswer::Range(_) => 15,
         }
     }
 
@@ -63,6 +68,7 @@ impl FileAnswer {
         match self {
             FileAnswer::BadEntry(p) => p,
             FileAnswer::Runs(p) => p,
+            FileAnswer::Range(p) => p,
             FileAnswer::Done => 0,
             FileAnswer::Block => 0,
             FileAnswer::Cut => 0,
@@ -92,6 +98,21 @@ impl Entry {
     }
 }
 
+// What the contents say of the values of a block: the smallest and the largest.
+pub struct Range {
+    pub smallest: u64,
+    pub largest: u64,
+}
+
+impl Range {
+    // Whether the smallest is not above the largest.
+    pub fn is_ordered(self) -> bool
+        ensures { λ r. ⌜ r ≡ isOrdered self ⌝ }
+    {
+        self.smallest <= self.largest
+    }
+}
+
 fn is_of_kind(e: Entry) -> bool
     ensures { λ r. ⌜ r ≡ isOfKind e ⌝ }
 {
@@ -118,6 +139,13 @@ fn is_runs(e: Entry) -> bool
     (e.width == 0) & ((2056 <= e.length) & ((e.length <= 10240) & (e.length % 8 == 0)))
 }
 
+// The edition; 0 where its bytes are not all there.
+pub fn edition(front: &[u8]) -> usize
+    ensures { λ r. ⌜ r ≡ editionOr (now (front .entry)) ⌝ }
+{
+    pair(front, 0) as usize
+}
+
 // The block count; 0 where the first four bytes are not all there.
 pub fn count(front: &[u8]) -> usize
     ensures { λ r. ⌜ r ≡ countOr (now (front .entry)) ⌝ }
@@ -125,16 +153,57 @@ pub fn count(front: &[u8]) -> usize
     pair(front, 2) as usize
 }
 
+// How many bytes the contents have, by the edition and the block count: behind them the first body begins.
+pub fn contents_length(front: &[u8]) -> usize
+    ensures { λ r. ⌜ r ≡ contentsSize (editionOr (now (front .entry))) (countOr (now (front .entry))) ⌝ }
+{
+    contents_size(edition(front), pair(front, 2) as usize)
+}
+
 // Entry i. Where it is not all there, an entry of no kind stands for it, which no body is right for.
 pub fn entry_or(front: &[u8], i: usize) -> Entry
     ensures { λ r. ⌜ r ≡ entryOr (now (front .entry)) i ⌝ }
 {
-    if i < front.len() / 16 {
-        if 4 + (i + 1) * 16 <= front.len() {
-            return entry_of(front, i);
-        }
+    let edition = edition(front);
+    if has_entry(front, edition, i) {
+        return entry_at(front, contents_size(edition, i));
     }
     no_entry()
+}
+
+// The smallest and the largest value that entry i says. Where it says none, or is not all there, every number is between them.
+pub fn range_or(front: &[u8], i: usize) -> Range
+    ensures { λ r. ⌜ r ≡ rangeOr (now (front .entry)) i ⌝ }
+{
+    let edition = edition(front);
+    if has_entry(front, edition, i) {
+        return range_of(front, edition, i);
+    }
+    any_range()
+}
+
+// Whether entry i is all there.
+fn has_entry(front: &[u8], edition: usize, i: usize) -> bool
+    ensures { λ r. ⌜ r ≡ leb (contentsSize edition (i + 1)) (length (now (front .entry))) ⌝ }
+{
+    if front.len() < 4 {
+        return false;
+    }
+    if edition == 2 {
+        return i < (front.len() - 4) / 32;
+    }
+    i < (front.len() - 4) / 16
+}
+
+// How many bytes contents of n entries have, where that is a number of 64 bits.
+fn contents_size(edition: usize, n: usize) -> usize
+    requires { ⌜ contentsSize edition n < 18446744073709551616 ⌝ }
+    ensures { λ r. ⌜ r ≡ contentsSize edition n ⌝ }
+{
+    if edition == 2 {
+        return 4 + n * 32;
+    }
+    4 + n * 16
 }
 
 // An entry of no kind, which stands for one that is not there.
@@ -150,12 +219,21 @@ pub fn no_entry() -> Entry
     }
 }
 
-// Entry i, which is there.
-fn entry_of(front: &[u8], i: usize) -> Entry
-    requires { ⌜ contentsSize (i + 1) ≤ length (now front) ⌝ }
-    ensures { λ r. ⌜ r ≡ entryOf (now (front .entry)) i ⌝ }
+// The range from 0 to the highest number, which stands for one that is not there.
+fn any_range() -> Range
+    ensures { λ r. ⌜ r ≡ anyRange ⌝ }
 {
-    let at = 4 + i * 16;
+    Range {
+        smallest: 0,
+        largest: 18446744073709551615,
+    }
+}
+
+// The entry whose first sixteen bytes are there, from place `at` on.
+fn entry_at(front: &[u8], at: usize) -> Entry
+    requires { ⌜ at + 16 ≤ length (now front) ⌝ }
+    ensures { λ r. ⌜ r ≡ entryAt (now (front .entry)) at ⌝ }
+{
     Entry {
         kind: front[at],
         width: front[at + 1],
@@ -165,19 +243,57 @@ fn entry_of(front: &[u8], i: usize) -> Entry
     }
 }
 
-// Writes edition 1 and the block count at the front of the bytes; nothing where they do not fit.
+// The range whose sixteen bytes are there, from place `at` on.
+fn range_at(front: &[u8], at: usize) -> Range
+    requires { ⌜ at + 16 ≤ length (now front) ⌝ }
+    ensures { λ r. ⌜ r ≡ rangeAt (now (front .entry)) at ⌝ }
+{
+    Range {
+        smallest: word(front, at),
+        largest: word(front, at + 8),
+    }
+}
+
+// The range of entry i, which is there.
+fn range_of(front: &[u8], edition: usize, i: usize) -> Range
+    requires { ⌜ edition ≡ editionIn (now front) ⌝ }
+    requires { ⌜ contentsSize edition (i + 1) ≤ length (now front) ⌝ }
+    ensures { λ r. ⌜ r ≡ rangeIn (now (front .entry)) i ⌝ }
+{
+    if edition == 2 {
+        return range_at(front, contents_size(edition, i) + 16);
+    }
+    any_range()
+}
+
+// Writes edition 2 and the block count at the front of the bytes; nothing where they do not fit.
 pub fn put_head(n: u16, bytes: &mut [u8])
     ensures { λ _. ⌜ now (bytes .exit) ≡ headLeaves n (now (bytes .entry)) ⌝ }
 {
     if 4 <= bytes.len() {
-        put_pair(1, 0, bytes);
+        put_pair(2, 0, bytes);
         put_pair(n, 2, bytes);
     }
 }
 
-// Writes an entry from place `at` on; nothing where it does not fit.
-pub fn put_entry(e: Entry, at: usize, bytes: &mut [u8])
-    ensures { λ _. ⌜ now (bytes .exit) ≡ entryLeaves e at (now (bytes .entry)) ⌝ }
+// Writes an entry and its range from place `at` on; nothing where they do not fit.
+pub fn put_entry(e: Entry, r: Range, at: usize, bytes: &mut [u8])
+    ensures { λ _. ⌜ now (bytes .exit) ≡ entryLeaves e r at (now (bytes .entry)) ⌝ }
+{
+    if bytes.len() < 32 {
+        return;
+    }
+    if bytes.len() - 32 < at {
+        return;
+    }
+    put_first(e, at, bytes);
+    put_word(r.smallest, at + 16, bytes);
+    put_word(r.largest, at + 24, bytes);
+}
+
+// Writes the first sixteen bytes of an entry from place `at` on; nothing where they do not fit.
+fn put_first(e: Entry, at: usize, bytes: &mut [u8])
+    ensures { λ _. ⌜ now (bytes .exit) ≡ firstLeaves e at (now (bytes .entry)) ⌝ }
 {
     if bytes.len() < 16 {
         return;
@@ -199,31 +315,35 @@ pub fn check(front: &[u8], size: usize) -> FileAnswer
     if front.len() < 4 {
         return FileAnswer::Cut;
     }
-    if pair(front, 0) != 1 {
-        return FileAnswer::Edition;
+    let edition = edition(front);
+    if edition != 1 {
+        if edition != 2 {
+            return FileAnswer::Edition;
+        }
     }
     let n = count(front);
     if 256 < n {
         return FileAnswer::Edition;
     }
-    if front.len() < 4 + n * 16 {
+    if front.len() < contents_size(edition, n) {
         return FileAnswer::Cut;
     }
-    check_entries(front, n, size)
+    check_entries(front, edition, n, size)
 }
 
 // The same from the entries on, which are there.
-fn check_entries(front: &[u8], n: usize, size: usize) -> FileAnswer
+fn check_entries(front: &[u8], edition: usize, n: usize, size: usize) -> FileAnswer
+    requires { ⌜ edition ≡ editionIn (now front) ⌝ }
     requires { ⌜ n ≡ countIn (now front) ⌝ }
     requires { ⌜ n ≤ 256 ⌝ }
-    requires { ⌜ contentsSize n ≤ length (now front) ⌝ }
+    requires { ⌜ contentsSize edition n ≤ length (now front) ⌝ }
     ensures { λ r. ⌜ r ≡ fileAnswer (entriesTests (now (front .entry)) size) ⌝ }
 {
-    let lowest = bad_entry(front, n);
+    let lowest = bad_entry(front, edition, n);
     if lowest < n {
         return FileAnswer::BadEntry(lowest);
     }
-    let end = 4 + n * 16 + bodies_of(front, n);
+    let end = contents_size(edition, n) + bodies_of(front, edition, n);
     if size < end {
         return FileAnswer::Cut;
     }
@@ -233,17 +353,18 @@ fn check_entries(front: &[u8], n: usize, size: usize) -> FileAnswer
     FileAnswer::Done
 }
 
-// The lowest of n entries that is not as laid out; n where there is none.
-fn bad_entry(front: &[u8], n: usize) -> usize
-    requires { ⌜ contentsSize n ≤ length (now front) ⌝ }
-    ensures { λ r. ⌜ r ≡ firstBad n (λ i. isLaidOut (entryOf (now (front .entry)) i)) ⌝ }
+// The lowest of n entries that is not right; n where there is none.
+fn bad_entry(front: &[u8], edition: usize, n: usize) -> usize
+    requires { ⌜ edition ≡ editionIn (now front) ⌝ }
+    requires { ⌜ contentsSize edition n ≤ length (now front) ⌝ }
+    ensures { λ r. ⌜ r ≡ firstBad n (isRight (now (front .entry))) ⌝ }
 {
     let mut i = 0;
     let lowest = loop {
         if n <= i {
             break i;
         }
-        if !entry_of(front, i).is_laid_out() {
+        if !is_right(front, edition, i) {
             break i;
         }
         i += 1;
@@ -251,16 +372,27 @@ fn bad_entry(front: &[u8], n: usize) -> usize
     lowest
 }
 
+// Whether entry i, which is there, is right.
+fn is_right(front: &[u8], edition: usize, i: usize) -> bool
+    requires { ⌜ edition ≡ editionIn (now front) ⌝ }
+    requires { ⌜ contentsSize edition (i + 1) ≤ length (now front) ⌝ }
+    ensures { λ r. ⌜ r ≡ isRight (now (front .entry)) i ⌝ }
+{
+    let e = entry_at(front, contents_size(edition, i));
+    e.is_laid_out() & range_of(front, edition, i).is_ordered()
+}
+
 // How many bytes the bodies of the first n entries have.
-fn bodies_of(front: &[u8], n: usize) -> usize
-    requires { ⌜ contentsSize n ≤ length (now front) ⌝ }
+fn bodies_of(front: &[u8], edition: usize, n: usize) -> usize
+    requires { ⌜ edition ≡ editionIn (now front) ⌝ }
+    requires { ⌜ contentsSize edition n ≤ length (now front) ⌝ }
     requires { ⌜ n ≤ 256 ⌝ }
     ensures { λ r. ⌜ (r ≡ bodiesSize (now (front .entry)) n) × (r ≤ 4294967296 * n) ⌝ }
 {
     let mut sum = 0;
     let mut i = 0;
     while i < n {
-        let e = entry_of(front, i);
+        let e = entry_at(front, contents_size(edition, i));
         sum += e.length as usize;
         i += 1;
     }

@@ -1,4 +1,4 @@
--- What one block out and the lookup of a row answer, by the tests that they make.
+-- What one block out answers by its tests, and what the lookup of a row answers by one block out.
 -- Assumes nothing.
 use mathlib.Core.Bool.{Bool, true, false}
 use mathlib.Core.List.{List, [], _∷_, _++_}
@@ -12,14 +12,16 @@ use Rattle.places.specs.Answers.{unless}
 use Rattle.places.specs.Pick.{pick}
 use Rattle.contents.specs.declared.FileAnswer.{FileAnswer}
 use Rattle.contents.specs.declared.FileAnswer.the-variants.{Done, Block, Beyond, Runs}
-use Rattle.contents.specs.Answers.{FileTest, a-number, passes, refusal, fileAnswer, numberOf, isDone, left}
+use Rattle.contents.specs.Answers.{FileTest, a-block, a-number, passes, refusal, fileAnswer, numberOf, isDone, left}
 use Rattle.contents.specs.Contents.{count, entryOf, entryOr, isLaidOut, contentsTests}
+use Rattle.contents.proofs.Accepted.{whole-laid}
 use Rattle.contents.proofs.Answers.{passed, stopped, none-left, refusal-not-done, in-front-done, in-front-refused, number-done}
 use Rattle.files.specs.declared.Row.the-variants.{Value, Refused}
-use Rattle.files.specs.Files.{rowCount, rowAt, blockIn, fileTests, blockTests, blockLeaves, rowTests}
+use Rattle.files.specs.Files.{rowCount, rowAt, blockIn, badRange, fileTests, blockTests, blockLeaves, rowTests}
 use Rattle.files.specs.Rows.{rowWords, rowOf}
 use Rattle.files.proofs.Files.{goodIn, left-picked, whole, entry-read}
 use Rattle.files.proofs.Others.{badBut, asked-bad, none-bad}
+use Rattle.files.proofs.Ranges.{file-refused, file-ranges, ranges-done}
 
 -- Two tests that answer alike do so behind the same tests.
 last-same : (xs : List FileTest) (x y : FileTest) → fileAnswer (x ∷ []) ≡ fileAnswer (y ∷ []) → fileAnswer (xs ++ (x ∷ [])) ≡ fileAnswer (xs ++ (y ∷ []))
@@ -45,42 +47,50 @@ number-passed n m e =
       | no h ↦ absurd (refusal-not-done (a-number n m) (sym (stopped _ [] (le-ltb n m (omega arith))) ∙ e))
     ]
 
+-- One block out tests its output first, then makes the tests of the file, and tests the number of the block last.
+module _ (tests : List FileTest) (b n : ℕ) (output : List ℕ) where
+  pub bad-output : (length output ≡ 1024 → ⊥) → fileAnswer (a-block output ∷ (tests ++ (a-number b n ∷ []))) ≡ Block
+  bad-output h = stopped _ _ (ne-eqb (length output) 1024 h)
+
+  module _ (e : length output ≡ 1024) where
+    pub block-refused : (numberOf (fileAnswer tests) ≡ 0 → ⊥) → fileAnswer (a-block output ∷ (tests ++ (a-number b n ∷ []))) ≡ fileAnswer tests
+    block-refused refused =
+        passed _ _ (eq-eqb (length output) 1024 e)
+        ∙ in-front-refused tests (a-number b n ∷ []) (λ d. refused (ap numberOf d))
+
+    module _ (done : fileAnswer tests ≡ Done) where
+      number-left : fileAnswer (a-block output ∷ (tests ++ (a-number b n ∷ []))) ≡ fileAnswer (a-number b n ∷ [])
+      number-left = passed _ _ (eq-eqb (length output) 1024 e) ∙ in-front-done tests (a-number b n ∷ []) done
+
+      pub block-beyond : n ≤ b → fileAnswer (a-block output ∷ (tests ++ (a-number b n ∷ []))) ≡ Beyond
+      block-beyond h = number-left ∙ stopped _ _ (le-ltb b n h)
+
+      pub block-done : b < n → fileAnswer (a-block output ∷ (tests ++ (a-number b n ∷ []))) ≡ Done
+      block-done h = number-left ∙ passed _ _ (lt-ltb b n h) ∙ none-left
+
 module _ (l : List ℕ) where
-  module _ (b : ℕ) (output : List ℕ) where
-    pub bad-output : (length output ≡ 1024 → ⊥) → fileAnswer (blockTests l b output) ≡ Block
-    bad-output h = stopped _ _ (ne-eqb (length output) 1024 h)
+  -- Where the contents are right, every other block is good and every range the true one, block b decides.
+  module _ (b : ℕ) (right : fileAnswer (contentsTests l (length l)) ≡ Done) (others : badBut l b ≡ count l) (ranges : badRange l ≡ count l) where
+    pub file-done : (b < count l → goodIn l b ≡ true) → fileAnswer (fileTests l) ≡ Done
+    file-done good = file-ranges l (none-bad l right b others good) ∙ ranges-done l ranges
 
-    module _ (e : length output ≡ 1024) where
-      pub block-refused : (numberOf (fileAnswer (fileTests l)) ≡ 0 → ⊥) → fileAnswer (blockTests l b output) ≡ fileAnswer (fileTests l)
-      block-refused n =
-          passed _ _ (eq-eqb (length output) 1024 e)
-          ∙ in-front-refused (fileTests l) (a-number b (count l) ∷ []) (λ d. n (ap numberOf d))
+    module _ (output : List ℕ) (e : length output ≡ 1024) (h : b < count l) where
+      pub block-decides : fileAnswer (blockTests l b output) ≡ pick (goodIn l b) Done (Runs b)
+      block-decides = go (goodIn l b) refl
+        where
+          go : (t : Bool) → goodIn l b ≡ t → fileAnswer (blockTests l b output) ≡ pick t Done (Runs b)
+          go true g = block-done (fileTests l) b (count l) output e (file-done (λ _. g)) h
+          go false g =
+              let runs = asked-bad l right b (count l) (sym others) (omega arith) h g in
+              let bad : fileAnswer (fileTests l) ≡ Runs b = file-refused l (λ z. thirteen (sym (ap numberOf runs) ∙ z)) ∙ runs in
+              block-refused (fileTests l) b (count l) output e (λ z. thirteen (sym (ap numberOf bad) ∙ z)) ∙ bad
+            where
+              thirteen : _≡_ {A = ℕ} 13 0 → ⊥
+              thirteen z = omega arith
 
-      module _ (done : fileAnswer (fileTests l) ≡ Done) where
-        number-left : fileAnswer (blockTests l b output) ≡ fileAnswer (a-number b (count l) ∷ [])
-        number-left = passed _ _ (eq-eqb (length output) 1024 e) ∙ in-front-done (fileTests l) (a-number b (count l) ∷ []) done
-
-        pub block-beyond : count l ≤ b → fileAnswer (blockTests l b output) ≡ Beyond
-        block-beyond h = number-left ∙ stopped _ _ (le-ltb b (count l) h)
-
-        pub block-done : b < count l → fileAnswer (blockTests l b output) ≡ Done
-        block-done h = number-left ∙ passed _ _ (lt-ltb b (count l) h) ∙ none-left
-
-      -- Where the contents are right and every other block is good, block b decides.
-      module _ (right : fileAnswer (contentsTests l (length l)) ≡ Done) (none : badBut l b ≡ count l) (h : b < count l) where
-        pub block-decides : fileAnswer (blockTests l b output) ≡ pick (goodIn l b) Done (Runs b)
-        block-decides = go (goodIn l b) refl
-          where
-            go : (t : Bool) → goodIn l b ≡ t → fileAnswer (blockTests l b output) ≡ pick t Done (Runs b)
-            go true g = block-done (none-bad l right b none (λ _. g)) h
-            go false g =
-                let bad = asked-bad l right b (count l) (sym none) (omega arith) h g in
-                let thirteen : numberOf (fileAnswer (fileTests l)) ≡ 13 = ap numberOf bad in
-                block-refused (λ z. omega arith) ∙ bad
-
-        pub block-leaves : blockLeaves l b output ≡ pick (goodIn l b) (blockIn l b) output
-        unfolding blockLeaves
-        block-leaves = ap (λ a. left a (blockIn l b) output) block-decides ∙ left-picked (goodIn l b) b (blockIn l b) output
+      pub block-leaves : blockLeaves l b output ≡ pick (goodIn l b) (blockIn l b) output
+      unfolding blockLeaves
+      block-leaves = ap (λ a. left a (blockIn l b) output) block-decides ∙ left-picked (goodIn l b) b (blockIn l b) output
 
   module _ (p : ℕ) where
     -- what a row gives, by its answer
@@ -116,7 +126,7 @@ module _ (l : List ℕ) where
       row-entry = entry-read l right (p / 1024) there
 
       pub row-laid : isLaidOut (entryOf l (p / 1024)) ≡ true
-      row-laid = whole l right .laid (p / 1024) there
+      row-laid = whole-laid (whole l right) (p / 1024) there
 
     pub row-done : fileAnswer (rowTests l p) ≡ Done → rowOf l p ≡ Value (rowAt l p) (rowWords l p)
     row-done e = row-is Done e

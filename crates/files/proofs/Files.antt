@@ -5,6 +5,7 @@ use mathlib.Core.Bool.{Bool, true, false}
 use mathlib.Core.List.{List, [], _∷_}
 use mathlib.Core.Path.{_≡_, refl, sym, ap, ap₂, _∙_}
 use Prim.Native.Nat.{ℕ, suc, _+_, _-_, _≤_, _<_}
+use native.Mathlib.Numerals.{add-one}
 use native.Mathlib.Omega.{arith}
 use lib.ListN.{length, take, drop, length-take, length-drop}
 use lib.Dec.{eqb}
@@ -13,11 +14,12 @@ use Rattle.places.specs.Pick.{pick}
 use Rattle.little.proofs.Little.{little-within}
 use Rattle.contents.specs.declared.FileAnswer.the-variants.{Done, Runs}
 use Rattle.contents.specs.Answers.{good-runs, fileAnswer, isDone, left}
-use Rattle.contents.specs.Contents.{count, countOr, contentsSize, entryOf, entryOr, isLaidOut, bodiesSize, bodyStart, contentsTests}
-use Rattle.contents.proofs.Accepted.{Whole, accepted}
+use Rattle.contents.specs.Contents.{edition, count, editionOr, countOr, contentsSize, entryOf, entryOr, rangeOf, rangeOr, isLaidOut, bodiesSize, bodyStart, contentsTests}
+use Rattle.contents.proofs.Accepted.{Whole, whole-laid, accepted}
 use Rattle.contents.proofs.Answers.{passed, stopped, none-left}
 use Rattle.contents.proofs.First.{first-only}
-use Rattle.contents.proofs.Entries.{entry-there, bodies-within}
+use Rattle.contents.proofs.Entries.{edition-there, entry-there, range-there, bodies-within}
+use Rattle.contents.proofs.Sizes.{size-before}
 use Rattle.bodies.specs.Bodies.{blockOf, hasGoodRuns, bodyTests, blockTests, blockLeaves}
 use Rattle.files.specs.Files.{bodyOf, blockIn, badRuns}
 
@@ -47,9 +49,20 @@ module _ (l : List ℕ) (done : fileAnswer (contentsTests l (length l)) ≡ Done
   pub count-read : countOr l ≡ count l
   count-read = little-within l 2 2 (whole .head)
 
+  pub edition-read : editionOr l ≡ edition l
+  edition-read = edition-there l (omega (arith, whole .head))
+
+  -- the first body begins behind the contents
+  pub length-read : contentsSize (editionOr l) (countOr l) ≡ bodyStart l 0
+  unfolding bodyStart bodiesSize
+  length-read = ap₂ contentsSize edition-read count-read ∙ omega arith
+
   module _ (i : ℕ) (h : i < count l) where
     pub entry-read : entryOr l i ≡ entryOf l i
-    entry-read = entry-there l i (omega (arith, whole .room))
+    entry-read = entry-there l i (omega (arith, whole .room, size-before (edition l) i (count l) h, ap (contentsSize (edition l)) (add-one i)))
+
+    pub range-read : rangeOr l i ≡ rangeOf l i
+    range-read = range-there l i (omega (arith, whole .room, size-before (edition l) i (count l) h, ap (contentsSize (edition l)) (add-one i)))
 
     -- a body ends within the file
     pub body-ends : bodyStart l i + entryOf l i .length ≤ length l
@@ -61,7 +74,7 @@ module _ (l : List ℕ) (done : fileAnswer (contentsTests l (length l)) ≡ Done
     body-long = simp (length-take, length-drop) (omega (arith, body-ends))
 
     pub body-laid : isLaidOut (entryOf l i) ≡ true
-    body-laid = whole .laid i h
+    body-laid = whole-laid whole i h
 
     -- of the tests of a body only that of its run indices is left
     pub body-tested : fileAnswer (bodyTests (entryOf l i) (bodyOf l i)) ≡ pick (goodIn l i) Done (Runs 0)
@@ -89,7 +102,7 @@ module _ (l : List ℕ) (done : fileAnswer (contentsTests l (length l)) ≡ Done
   unfolding bodyStart bodiesSize
   next-start i = omega arith
 
-  pub first-start : bodyStart l 0 ≡ contentsSize (count l)
+  pub first-start : bodyStart l 0 ≡ contentsSize (edition l) (count l)
   unfolding bodyStart bodiesSize
   first-start = omega arith
 

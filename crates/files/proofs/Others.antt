@@ -2,7 +2,7 @@
 -- Assumes nothing.
 use mathlib.Core.Bool.{Bool, true, false}
 use mathlib.Core.List.{List, [], _∷_}
-use mathlib.Core.Path.{_≡_, sym, ap, _∙_}
+use mathlib.Core.Path.{_≡_, refl, sym, ap, _∙_}
 use Prim.Native.Nat.{ℕ, _≤_, _<_}
 use native.Mathlib.Decide.{ℕ-discrete}
 use native.Mathlib.Omega.{arith}
@@ -17,7 +17,8 @@ use Rattle.contents.specs.Contents.{count, contentsTests}
 use Rattle.contents.specs.First.{firstBad}
 use Rattle.contents.proofs.Answers.{stopped, in-front-done}
 use Rattle.contents.proofs.First.{first-only, first-le, first-before, first-at}
-use Rattle.files.specs.Files.{badRuns, fileTests}
+use Rattle.files.specs.Files.{badRuns}
+use Rattle.files.specs.InnerRuns.{runsTests}
 use Rattle.files.proofs.Files.{goodIn, no-bad-runs}
 
 -- This is the lowest number below n, other than b, whose test fails, and n where there is none.
@@ -54,12 +55,22 @@ module _ (n b : ℕ) (test : ℕ → Bool) where
 abbrev pub badBut : (l : List ℕ) (b : ℕ) → ℕ
 badBut l b = others (count l) b (goodIn l)
 
+-- Where every block is good, so is every other one.
+pub none-but : (l : List ℕ) (b : ℕ) → ((i : ℕ) → i < count l → goodIn l i ≡ true) → badBut l b ≡ count l
+none-but l b all =
+    sym (first-only (count l) (count l) (λ i. either (eqb i b) (goodIn l i)) (omega arith)
+    (λ i h. ap (either (eqb i b)) (all i h) ∙ either-true (eqb i b)) (λ h. absurd (omega arith)))
+  where
+    either-true : (s : Bool) → either s true ≡ true
+    either-true true = refl
+    either-true false = refl
+
 pub but-le : (l : List ℕ) (b : ℕ) → badBut l b ≤ count l
 but-le l b = first-le (count l) (λ i. either (eqb i b) (goodIn l i))
 
 module _ (l : List ℕ) (right : fileAnswer (contentsTests l (length l)) ≡ Done) where
   -- behind right contents the lowest bad block decides
-  runs-at : (p : ℕ) → p ≡ badRuns l → p < count l → fileAnswer (fileTests l) ≡ Runs p
+  runs-at : (p : ℕ) → p ≡ badRuns l → p < count l → fileAnswer (runsTests l) ≡ Runs p
   runs-at p found h =
       in-front-done (contentsTests l (length l)) (good-runs (badRuns l) (count l) ∷ []) right
       ∙ stopped _ _ (ne-eqb (badRuns l) (count l) (λ e. omega arith))
@@ -67,17 +78,17 @@ module _ (l : List ℕ) (right : fileAnswer (contentsTests l (length l)) ≡ Don
 
   module _ (b bad : ℕ) (found : bad ≡ badBut l b) where
     -- Of the other blocks the lowest bad one is reported, where block b is behind it or good;
-    pub other-bad : bad < count l → (b < bad → goodIn l b ≡ true) → fileAnswer (fileTests l) ≡ Runs bad
+    pub other-bad : bad < count l → (b < bad → goodIn l b ≡ true) → fileAnswer (runsTests l) ≡ Runs bad
     unfolding badRuns
     other-bad h good = runs-at bad (found ∙ first-others (count l) b (goodIn l) (λ k. good (omega arith))) h
 
     -- block b is, where it is bad and not behind that one;
-    pub asked-bad : b ≤ bad → b < count l → goodIn l b ≡ false → fileAnswer (fileTests l) ≡ Runs b
+    pub asked-bad : b ≤ bad → b < count l → goodIn l b ≡ false → fileAnswer (runsTests l) ≡ Runs b
     unfolding badRuns
     asked-bad low h worse = runs-at b (first-left-out (count l) b (goodIn l) (omega arith) h worse) h
 
-  -- and where no block is bad, the file is right.
-  pub none-bad : (b : ℕ) → badBut l b ≡ count l → (b < count l → goodIn l b ≡ true) → fileAnswer (fileTests l) ≡ Done
+  -- and where no block is bad, the file is right up to there.
+  pub none-bad : (b : ℕ) → badBut l b ≡ count l → (b < count l → goodIn l b ≡ true) → fileAnswer (runsTests l) ≡ Done
   none-bad b none good =
       let found : firstBad (count l) (goodIn l) ≡ count l = sym (first-others (count l) b (goodIn l) (λ h. good (omega arith))) ∙ none in
       in-front-done (contentsTests l (length l)) (good-runs (badRuns l) (count l) ∷ []) right

@@ -1,40 +1,71 @@
--- A file gets an answer exactly when it has the reason for it: Item 1's refusals, each exactly when, in both directions, for the check, for one
+-- A file gets an answer exactly when it has the reason for it: the refusals of Items 1 and 9, each exactly when, in both directions, for the check, for one
 -- block out and for the lookup of a row.
 -- Assumes nothing.
 use mathlib.Core.Bool.{Bool, true, false}
 use mathlib.Core.List.{List, [], _∷_, _++_}
 use mathlib.Core.Logic.{_↔_, _⊎_, inl, inr, ⊎-elim, _≢_}
-use mathlib.Core.Path.{_≡_, refl, sym, ap, subst, _∙_}
+use mathlib.Core.Path.{_≡_, refl, sym, ap, ap₂, subst, _∙_}
 use Prim.Native.Nat.{ℕ, _*_, _-_, _/_, _≤_, _<_}
 use native.Mathlib.Decide.{decLe, decLt, ℕ-discrete}
 use native.Mathlib.Omega.{arith}
 use lib.Dec.{eqb}
 use lib.ListN.{length, getD}
-use borrow.Author.Tests.{le-leb, lt-leb, lt-ltb, le-ltb, eq-eqb, ne-eqb, eqb-true, eqb-false}
-use Rattle.places.specs.Pick.{pick}
+use borrow.Author.Tests.{le-leb, leb-true, lt-ltb, le-ltb, eq-eqb, ne-eqb, eqb-true, eqb-false}
+use Rattle.places.specs.Pick.{pick, both}
 use Rattle.places.specs.Search.{firstBeyond}
 use Rattle.places.specs.Tab.{tab}
 use Rattle.places.proofs.Search.{first-beyond-none}
 use Rattle.places.proofs.Tabs.{getD-tab, length-tab}
-use Rattle.places.proofs.Tests.{false-true}
+use Rattle.places.proofs.Tests.{false-true, both-true}
 use Rattle.little.specs.Little.{little, numbersOf}
 use Rattle.contents.specs.declared.Entry.{Entry}
 use Rattle.contents.specs.declared.FileAnswer.{FileAnswer}
-use Rattle.contents.specs.declared.FileAnswer.the-variants.{Done, Block, Cut, Edition, BadEntry, Over, Beyond, Runs}
-use Rattle.contents.specs.Answers.{FileTest, a-block, a-number, good-runs, fileAnswer, numberOf}
-use Rattle.contents.specs.Contents.{edition, count, contentsSize, entryOf, isLaidOut, badEntry, bodyStart, entriesTests, contentsTests}
+use Rattle.contents.specs.declared.FileAnswer.the-variants.{Done, Block, Cut, Edition, BadEntry, Over, Beyond, Runs, Range}
+use Rattle.contents.specs.Answers.{FileTest, a-number, good-runs, true-ranges, fileAnswer, numberOf}
+use Rattle.contents.specs.Contents.{edition, count, contentsSize, entryOf, rangeOf, isLaidOut, isOrdered, isRight, badEntry, bodyStart, entriesTests, contentsTests}
 use Rattle.contents.specs.First.{firstBad}
-use Rattle.contents.specs.Plain.{LaidOut}
-use Rattle.contents.proofs.Accepted.{Whole, accepted, accepts, done-front}
+use Rattle.contents.proofs.Accepted.{accepts}
 use Rattle.contents.proofs.Answers.{passed, stopped, none-left, in-front-done, in-front-refused, number-done}
 use Rattle.contents.proofs.Checks as Checks
 use Rattle.contents.proofs.First.{first-only, first-le, first-before, first-at}
 use Rattle.contents.proofs.Laid.{laid-plain}
-use Rattle.bodies.specs.Bodies.{hasGoodRuns, runIndices, valueCount}
-use Rattle.files.specs.Files.{bodyOf, badRuns, rowCount, fileTests, blockTests, rowTests}
-use Rattle.files.specs.Plain.{GoodRuns, Headed, LaidTo, GoodTo, Right, Reason, BlockReason, RowReason}
-use Rattle.files.specs.Plain.{short-head, other-edition, short-entries, bad-entry, short-bodies, left-over, bad-runs, none}
+use Rattle.bodies.specs.Bodies.{hasGoodRuns, valueCount}
+use Rattle.bodies.specs.Ranges.{isRange, lowestOf}
+use Rattle.runs.specs.Highest.{highestOf}
+use Rattle.files.specs.Files.{bodyOf, blockIn, hasTrueRange, badRuns, badRange, rowCount, fileTests, blockTests, rowTests}
+use Rattle.files.specs.Plain.{GoodRuns, TrueRange, Headed, EntryRight, RightTo, GoodTo, TrueTo, Right, Reason, BlockReason, RowReason}
+use Rattle.files.specs.Plain.{short-head, other-edition, short-entries, bad-entry, short-bodies, left-over, bad-runs, bad-range, none}
 use Rattle.files.specs.Plain.{bad-output, of-file-block, no-block, block-there, of-file-row, no-row, row-there}
+use Rattle.files.proofs.Files.{goodIn}
+use Rattle.files.proofs.Ranges.{ranges-done, range-at}
+
+-- ---- a search by a test that says something
+
+-- The test of each number says that something holds of it. So the search for the lowest that fails is for the lowest of which it does not hold.
+module _ (n : ℕ) (test : ℕ → Bool) (Holds : ℕ → Type 0) (plain : (i : ℕ) → (test i ≡ true) ↔ Holds i) where
+  lowest-found : (p : ℕ) → p < n → (Holds p → ⊥) → ((i : ℕ) → i < p → Holds i) → firstBad n test ≡ p
+  lowest-found p h bad before =
+      sym (first-only n p test (omega arith) (λ i b. plain i .1 (before i b)) (λ _. not-true (test p) (λ e. bad (plain p .0 e))))
+    where
+      not-true : (b : Bool) → (b ≡ true → ⊥) → b ≡ false
+      not-true true n = absurd (n refl)
+      not-true false n = refl
+
+  none-found : ((i : ℕ) → i < n → Holds i) → firstBad n test ≡ n
+  none-found all = sym (first-only n n test (omega arith) (λ i b. plain i .1 (all i b)) (λ h. absurd (omega arith)))
+
+  before-holds : (i : ℕ) → i < firstBad n test → Holds i
+  before-holds i h = plain i .0 (first-before n test i h)
+
+  at-fails : firstBad n test < n → Holds (firstBad n test) → ⊥
+  at-fails h holds = false-true (sym (first-at n test h) ∙ plain (firstBad n test) .1 holds)
+
+  all-hold : (firstBad n test < n → ⊥) → (i : ℕ) → i < n → Holds i
+  all-hold h i b =
+      elim (decLt (firstBad n test) n) [
+        | yes some ↦ absurd (h some)
+        | no all ↦ before-holds i (omega arith)
+      ]
 
 -- ---- the tests, in plain arithmetic
 
@@ -59,44 +90,56 @@ runs-plain e body = go (eqb (e .kind) 3) refl
     go false k = ((λ _ q. absurd (eqb-false (e .kind) 3 k q)), (λ _. refl))
 
 module _ (l : List ℕ) where
-  -- Entries that pass their test are as laid out, and the other way round.
-  laid-to : (n : ℕ) → ((i : ℕ) → i < n → isLaidOut (entryOf l i) ≡ true) → LaidTo l n
-  laid-to n f i h = laid-plain (entryOf l i) .0 (f i h)
+  -- So does that of its run indices, block by block,
+  good-plain : (i : ℕ) → (goodIn l i ≡ true) ↔ GoodRuns (entryOf l i) (bodyOf l i)
+  good-plain i = runs-plain (entryOf l i) (bodyOf l i)
 
-  laid-from : (n : ℕ) → LaidTo l n → (i : ℕ) → i < n → isLaidOut (entryOf l i) ≡ true
-  laid-from n f i h = laid-plain (entryOf l i) .1 (f i h)
+  -- that of an entry,
+  pub entry-plain : (i : ℕ) → (isRight l i ≡ true) ↔ EntryRight l i
+  unfolding isRight
+  entry-plain i = (
+    (λ e. let t = both-true (isLaidOut (entryOf l i)) (isOrdered (rangeOf l i)) e in
+        (laid-plain (entryOf l i) .0 (t .0), leb-true (rangeOf l i .smallest) (rangeOf l i .largest) (t .1))),
+    (λ r. ap₂ both (laid-plain (entryOf l i) .1 (r .0)) (le-leb (rangeOf l i .smallest) (rangeOf l i .largest) (r .1))),
+  )
 
-  good-to : (n : ℕ) → ((i : ℕ) → i < n → hasGoodRuns (entryOf l i) (bodyOf l i) ≡ true) → GoodTo l n
-  good-to n f i h = runs-plain (entryOf l i) (bodyOf l i) .0 (f i h)
+  -- and that of a range.
+  pub range-plain : (i : ℕ) → (hasTrueRange l i ≡ true) ↔ TrueRange l i
+  unfolding hasTrueRange
+  range-plain i = go (eqb (edition l) 2) refl
+    where
+      go : (t : Bool) → eqb (edition l) 2 ≡ t → (pick t (isRange (rangeOf l i) (blockIn l i)) true ≡ true) ↔ TrueRange l i
+      go true k = (
+        (λ e _. let t = both-true (eqb (rangeOf l i .smallest) (lowestOf (blockIn l i))) (eqb (rangeOf l i .largest) (highestOf (blockIn l i))) e in
+            (eqb-true (rangeOf l i .smallest) (lowestOf (blockIn l i)) (t .0), eqb-true (rangeOf l i .largest) (highestOf (blockIn l i)) (t .1))),
+        (λ r. let t = r (eqb-true (edition l) 2 k) in
+            ap₂ both (eq-eqb (rangeOf l i .smallest) (lowestOf (blockIn l i)) (t .0)) (eq-eqb (rangeOf l i .largest) (highestOf (blockIn l i)) (t .1))),
+      )
+      go false k = ((λ _ q. absurd (eqb-false (edition l) 2 k q)), (λ _. refl))
 
-  good-from : (n : ℕ) → GoodTo l n → (i : ℕ) → i < n → hasGoodRuns (entryOf l i) (bodyOf l i) ≡ true
-  good-from n f i h = runs-plain (entryOf l i) (bodyOf l i) .1 (f i h)
-
-  -- a test that does not pass fails
-  not-true : (b : Bool) → (b ≡ true → ⊥) → b ≡ false
-  not-true true n = absurd (n refl)
-  not-true false n = refl
-
-  entry-found : (p : ℕ) → p < count l → (LaidOut (entryOf l p) → ⊥) → LaidTo l p → badEntry l ≡ p
+  entry-found : (p : ℕ) → p < count l → (EntryRight l p → ⊥) → RightTo l p → badEntry l ≡ p
   unfolding badEntry
-  entry-found p h bad before =
-      sym (first-only (count l) p (λ i. isLaidOut (entryOf l i)) (omega arith) (laid-from p before)
-      (λ _. not-true (isLaidOut (entryOf l p)) (λ e. bad (laid-plain (entryOf l p) .0 e))))
+  entry-found = lowest-found (count l) (isRight l) (EntryRight l) entry-plain
 
-  entries-found : LaidTo l (count l) → badEntry l ≡ count l
+  entries-found : RightTo l (count l) → badEntry l ≡ count l
   unfolding badEntry
-  entries-found all = sym (first-only (count l) (count l) (λ i. isLaidOut (entryOf l i)) (omega arith) (laid-from (count l) all) (λ h. absurd (omega arith)))
+  entries-found = none-found (count l) (isRight l) (EntryRight l) entry-plain
 
   runs-found : (p : ℕ) → p < count l → (GoodRuns (entryOf l p) (bodyOf l p) → ⊥) → GoodTo l p → badRuns l ≡ p
   unfolding badRuns
-  runs-found p h bad before =
-      sym (first-only (count l) p (λ i. hasGoodRuns (entryOf l i) (bodyOf l i)) (omega arith) (good-from p before)
-      (λ _. not-true (hasGoodRuns (entryOf l p) (bodyOf l p)) (λ e. bad (runs-plain (entryOf l p) (bodyOf l p) .0 e))))
+  runs-found = lowest-found (count l) (goodIn l) (λ i. GoodRuns (entryOf l i) (bodyOf l i)) good-plain
 
   all-runs-found : GoodTo l (count l) → badRuns l ≡ count l
   unfolding badRuns
-  all-runs-found all =
-      sym (first-only (count l) (count l) (λ i. hasGoodRuns (entryOf l i) (bodyOf l i)) (omega arith) (good-from (count l) all) (λ h. absurd (omega arith)))
+  all-runs-found = none-found (count l) (goodIn l) (λ i. GoodRuns (entryOf l i) (bodyOf l i)) good-plain
+
+  range-found : (p : ℕ) → p < count l → (TrueRange l p → ⊥) → TrueTo l p → badRange l ≡ p
+  unfolding badRange
+  range-found = lowest-found (count l) (hasTrueRange l) (TrueRange l) range-plain
+
+  all-ranges-found : TrueTo l (count l) → badRange l ≡ count l
+  unfolding badRange
+  all-ranges-found = none-found (count l) (hasTrueRange l) (TrueRange l) range-plain
 
   -- ---- a reason gives its answer
 
@@ -106,7 +149,8 @@ module _ (l : List ℕ) where
 
   of-contents : (a : FileAnswer) → fileAnswer (contentsTests l (length l)) ≡ a → (numberOf a ≡ 0 → ⊥) → fileAnswer (fileTests l) ≡ a
   of-contents a e h =
-      in-front-refused (contentsTests l (length l)) (good-runs (badRuns l) (count l) ∷ []) (λ d. apart a h (sym e ∙ d)) ∙ e
+      in-front-refused (contentsTests l (length l)) (good-runs (badRuns l) (count l) ∷ true-ranges (badRange l) (count l) ∷ []) (λ d. apart a h (sym e ∙ d))
+      ∙ e
 
   of-entries : (a : FileAnswer) → Headed l → fileAnswer (entriesTests l (length l)) ≡ a → (numberOf a ≡ 0 → ⊥) → fileAnswer (fileTests l) ≡ a
   of-entries a w e h = of-contents a (Checks.entries-there l (length l) (w .head) (w .first) (w .few) (w .room) ∙ e) h
@@ -119,16 +163,19 @@ module _ (l : List ℕ) where
         first = r .headed .first;
         few = r .headed .few;
         room = r .headed .room;
-        laid = laid-from (count l) (r .laid);
+        right = λ i h. entry-plain i .1 (r .entries i h);
         end = r .end;
       })
 
-  of-runs : Right l → fileAnswer (fileTests l) ≡ fileAnswer (good-runs (badRuns l) (count l) ∷ [])
-  of-runs r = in-front-done (contentsTests l (length l)) (good-runs (badRuns l) (count l) ∷ []) (right-done r)
+  of-runs : Right l → fileAnswer (fileTests l) ≡ fileAnswer (good-runs (badRuns l) (count l) ∷ true-ranges (badRange l) (count l) ∷ [])
+  of-runs r = in-front-done (contentsTests l (length l)) (good-runs (badRuns l) (count l) ∷ true-ranges (badRange l) (count l) ∷ []) (right-done r)
+
+  of-ranges : Right l → GoodTo l (count l) → fileAnswer (fileTests l) ≡ fileAnswer (true-ranges (badRange l) (count l) ∷ [])
+  of-ranges r good = of-runs r ∙ passed _ _ (eq-eqb (badRuns l) (count l) (all-runs-found good))
 
   pub reason-gives : {a : FileAnswer} → Reason l a → fileAnswer (fileTests l) ≡ a
   reason-gives (short-head h) = of-contents Cut (Checks.short-head l (length l) h) (λ e. omega arith)
-  reason-gives (other-edition h (inl o)) = of-contents Edition (Checks.other-edition l (length l) h o) (λ e. omega arith)
+  reason-gives (other-edition h (inl o)) = of-contents Edition (Checks.other-edition l (length l) h (o .0) (o .1)) (λ e. omega arith)
   reason-gives (other-edition h (inr m)) = of-contents Edition (Checks.many-blocks l (length l) h m) (λ e. omega arith)
   reason-gives (short-entries h f m s) = of-contents Cut (Checks.short-entries l (length l) h f m s) (λ e. omega arith)
   reason-gives (bad-entry p w h bad before) =
@@ -139,9 +186,25 @@ module _ (l : List ℕ) where
   reason-gives (bad-runs p r h bad before) =
       let found : badRuns l ≡ p = runs-found p h bad before in
       of-runs r ∙ stopped _ _ (ne-eqb (badRuns l) (count l) (λ e. omega arith)) ∙ ap Runs found
-  reason-gives (none r all) = of-runs r ∙ passed _ _ (eq-eqb (badRuns l) (count l) (all-runs-found all)) ∙ none-left
+  reason-gives (bad-range p r good h bad before) =
+      let found : badRange l ≡ p = range-found p h bad before in
+      of-ranges r good ∙ range-at l p (sym found) (λ e. omega arith)
+  reason-gives (none r good all) = of-ranges r good ∙ ranges-done l (all-ranges-found all)
 
   -- ---- every file has a reason
+
+  from-ranges : Right l → GoodTo l (count l) → (a : FileAnswer) × Reason l a
+  unfolding badRange
+  from-ranges r good =
+      elim (decLt (badRange l) (count l)) [
+        | yes h ↦ (
+          Range (badRange l),
+          bad-range (badRange l) r good h
+              (at-fails (count l) (hasTrueRange l) (TrueRange l) range-plain h)
+              (before-holds (count l) (hasTrueRange l) (TrueRange l) range-plain),
+        )
+        | no h ↦ (Done, none r good (all-hold (count l) (hasTrueRange l) (TrueRange l) range-plain h))
+      ]
 
   from-runs : Right l → (a : FileAnswer) × Reason l a
   unfolding badRuns
@@ -150,10 +213,10 @@ module _ (l : List ℕ) where
         | yes h ↦ (
           Runs (badRuns l),
           bad-runs (badRuns l) r h
-              (λ g. false-true (sym (first-at (count l) _ h) ∙ runs-plain (entryOf l (badRuns l)) (bodyOf l (badRuns l)) .1 g))
-              (good-to (badRuns l) (first-before (count l) _)),
+              (at-fails (count l) (goodIn l) (λ i. GoodRuns (entryOf l i) (bodyOf l i)) good-plain h)
+              (before-holds (count l) (goodIn l) (λ i. GoodRuns (entryOf l i) (bodyOf l i)) good-plain),
         )
-        | no h ↦ (Done, none r (good-to (count l) (λ i b. first-before (count l) (λ i. hasGoodRuns (entryOf l i) (bodyOf l i)) i (omega (arith, first-le (count l) (λ i. hasGoodRuns (entryOf l i) (bodyOf l i)))))))
+        | no h ↦ from-ranges r (all-hold (count l) (goodIn l) (λ i. GoodRuns (entryOf l i) (bodyOf l i)) good-plain h)
       ]
 
   from-entries : Headed l → (a : FileAnswer) × Reason l a
@@ -163,19 +226,19 @@ module _ (l : List ℕ) where
         | yes h ↦ (
           BadEntry (badEntry l),
           bad-entry (badEntry l) w h
-              (λ g. false-true (sym (first-at (count l) _ h) ∙ laid-plain (entryOf l (badEntry l)) .1 g))
-              (laid-to (badEntry l) (first-before (count l) _)),
+              (at-fails (count l) (isRight l) (EntryRight l) entry-plain h)
+              (before-holds (count l) (isRight l) (EntryRight l) entry-plain),
         )
-        | no h ↦ sizes (laid-to (count l) (λ i b. first-before (count l) (λ i. isLaidOut (entryOf l i)) i (omega (arith, first-le (count l) (λ i. isLaidOut (entryOf l i))))))
+        | no h ↦ sizes (all-hold (count l) (isRight l) (EntryRight l) entry-plain h)
       ]
     where
-      sizes : LaidTo l (count l) → (a : FileAnswer) × Reason l a
+      sizes : RightTo l (count l) → (a : FileAnswer) × Reason l a
       sizes all =
           elim (decLt (length l) (bodyStart l (count l))) [
             | yes s ↦ (Cut, short-bodies w all s)
             | no s ↦ elim (decLt (bodyStart l (count l)) (length l)) [
               | yes m ↦ (Over, left-over w all m)
-              | no m ↦ from-runs (record { headed = w; laid = all; end = omega arith })
+              | no m ↦ from-runs (record { headed = w; entries = all; end = omega arith })
             ]
           ]
 
@@ -183,16 +246,16 @@ module _ (l : List ℕ) where
   from-head =
       elim (decLe 4 (length l)) [
         | no h ↦ (Cut, short-head (omega arith))
-        | yes h ↦ elim (ℕ-discrete (edition l) 1) [
-          | no o ↦ (Edition, other-edition h (inl o))
-          | yes f ↦ elim (decLe (count l) 256) [
-            | no m ↦ (Edition, other-edition h (inr (omega arith)))
-            | yes m ↦ elim (decLe (contentsSize (count l)) (length l)) [
-              | no s ↦ (Cut, short-entries h f m (omega arith))
-              | yes s ↦ from-entries (record { head = h; first = f; few = m; room = s })
-            ]
-          ]
-        ]
+        | yes h ↦ ⊎-elim
+            (λ f. elim (decLe (count l) 256) [
+              | no m ↦ (Edition, other-edition h (inr (omega arith)))
+              | yes m ↦ elim (decLe (contentsSize (edition l) (count l)) (length l)) [
+                | no s ↦ (Cut, short-entries h f m (omega arith))
+                | yes s ↦ from-entries (record { head = h; first = f; few = m; room = s })
+              ]
+            ])
+            (λ o. (Edition, other-edition h (inl o)))
+            (Checks.known-or-not (edition l))
       ]
 
   -- Each answer is given exactly when the file has the reason for it.

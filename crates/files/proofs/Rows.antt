@@ -24,12 +24,12 @@ use Rattle.contents.specs.declared.FileAnswer.the-variants.{Done}
 use Rattle.contents.specs.Answers.{fileAnswer, isDone, left}
 use Rattle.contents.proofs.Answers.{says-answer}
 use Rattle.contents.proofs.Laid.{laid-packed, laid-frame}
-use Rattle.contents.specs.Contents.{count, entryOf, isOfKind, isLaidOut, badEntry, bodiesSize, bodyStart}
+use Rattle.contents.specs.Contents.{count, entrySize, contentsSize, entryOf, rangeOf, isOfKind, isLaidOut, isRight, badEntry, bodiesSize, bodyStart}
 use Rattle.contents.specs.First.{firstFrom, firstBad}
 use Rattle.bodies.specs.Bodies.{blockOf, hasGoodRuns}
 use Rattle.files.specs.declared.Row.{Row}
 use Rattle.files.specs.declared.Row.the-variants.{Value, Refused}
-use Rattle.files.specs.Files.{badRuns, blockIn, rowCount, rowAt, rowsOf, fileTests, rowTests, blockLeaves}
+use Rattle.files.specs.Files.{badRuns, hasTrueRange, badRange, blockIn, rowCount, rowAt, rowsOf, fileTests, rowTests, blockLeaves}
 use Rattle.files.specs.Rows.{answerOf, valueOf, wordsOf, rowWords, rowOf}
 use Rattle.files.proofs.Calls.{row-as-block, row-laid, row-done, block-done}
 
@@ -50,7 +50,7 @@ module _ (l : List ℕ) where
       × (rowOf l p ≡ Value (getD (blockLeaves l (p / 1024) output) (p % 1024) 0) (rowWords l p))
   unfolding blockLeaves rowAt
   row-block done p h output e =
-      let out = block-done l (p / 1024) output e done (omega arith) in
+      let out = block-done (fileTests l) (p / 1024) (count l) output e done (omega arith) in
       let looked : rowOf l p ≡ Value (getD (blockIn l (p / 1024)) (p % 1024) 0) (rowWords l p) = row-done l p (row-as-block l p output e ∙ out) in (
         looked ∙ ap (λ v. Value v (rowWords l p)) (sym (row-place p h)),
         looked ∙ ap (λ a. Value (getD (left a (blockIn l (p / 1024)) output) (p % 1024) 0) (rowWords l p)) (sym out),
@@ -112,7 +112,7 @@ oneOfSevens = 1 ∷ 0 ∷ 1 ∷ 0 ∷ 1 ∷ 0 ∷ 0 ∷ 0 ∷ 0 ∷ 0 ∷ 0 ∷ 
 
 -- Both are accepted.
 pub worked-accepted : (fileAnswer (fileTests noBlocks) ≡ Done) × (fileAnswer (fileTests oneOfSevens) ≡ Done)
-unfolding fileAnswer little badEntry badRuns firstBad firstFrom isLaidOut isOfKind entryOf bodyStart bodiesSize hasGoodRuns
+unfolding fileAnswer little entrySize contentsSize badEntry badRuns badRange firstBad firstFrom isRight isLaidOut isOfKind entryOf rangeOf bodyStart bodiesSize hasGoodRuns hasTrueRange
 worked-accepted = (refl, refl)
 
 -- The first has no rows,
@@ -122,7 +122,7 @@ worked-none = refl
 
 -- and every row of the second is 7.
 pub worked-sevens : (length (rowsOf oneOfSevens) ≡ 1024) × ((p : ℕ) → p < 1024 → getD (rowsOf oneOfSevens) p 0 ≡ 7)
-unfolding little blockIn blockOf entryOf unforPackOf plus
+unfolding little entrySize contentsSize blockIn blockOf entryOf unforPackOf plus
 worked-sevens = (
   rows-count oneOfSevens,
   λ p h.

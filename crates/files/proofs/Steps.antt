@@ -1,36 +1,40 @@
--- The check of the whole file is what its two steps give: the contents against the file's length, and one body against its entry. A program that
--- makes the two steps itself, with no more of the file in hand than the contents and one body, so gets the same answer. And a refused block out
--- leaves its output as it was.
+-- The check of the whole file is what its steps give: the contents against the file's length, one body against its entry, and in edition 2 the
+-- range of one block against its entry. A program that makes these steps itself, with no more of the file in hand than the contents and one body,
+-- so gets the same answer. And a refused block out leaves its output as it was.
 -- Assumes nothing.
 use mathlib.Core.Bool.{Bool, true, false}
 use mathlib.Core.List.{List, [], _∷_}
 use mathlib.Core.Path.{_≡_, refl, sym, ap, _∙_}
-use Prim.Native.Nat.{ℕ, _<_}
-use native.Mathlib.Omega.{arith}
+use Prim.Native.Nat.{ℕ}
 use lib.Dec.{eqb}
 use lib.ListN.{length}
 use borrow.Author.Tests.{eqb-true, eqb-false}
 use Rattle.places.specs.Answers.{unless}
 use Rattle.contents.specs.declared.FileAnswer.{FileAnswer}
-use Rattle.contents.specs.declared.FileAnswer.the-variants.{Done, Runs}
-use Rattle.contents.specs.Answers.{good-runs, fileAnswer, numberOf, isDone}
+use Rattle.contents.specs.declared.FileAnswer.the-variants.{Done, Runs, Range}
+use Rattle.contents.specs.Answers.{FileTest, good-runs, true-ranges, fileAnswer, numberOf, isDone}
 use Rattle.contents.specs.Contents.{count, entryOf, contentsTests}
 use Rattle.contents.specs.First.{firstBad}
-use Rattle.contents.proofs.Answers.{passed, stopped, none-left, in-front-done, in-front-refused, number-done, left-refused}
+use Rattle.contents.proofs.Answers.{in-front-done, in-front-refused, number-done, left-refused}
 use Rattle.contents.proofs.First.{first-ext}
 use Rattle.bodies.specs.Bodies.{hasGoodRuns, bodyTests}
-use Rattle.files.specs.Files.{bodyOf, blockIn, badRuns, fileTests, blockTests, blockLeaves}
+use Rattle.files.specs.Files.{bodyOf, blockIn, badRuns, badRange, fileTests, blockTests, blockLeaves}
 use Rattle.files.proofs.Files.{body-tested, tested-done}
 
 -- This is the lowest block whose body the second step refuses, and the count where there is none.
 abbrev pub badBody : List ℕ → ℕ
 badBody l = firstBad (count l) (λ i. isDone (fileAnswer (bodyTests (entryOf l i) (bodyOf l i))))
 
--- The answer by the two steps: a refusal of the first, and else 13 with the lowest body that the second refuses, where there is one.
+-- What the bodies give: 13 with the lowest that the second step refuses, where there is one, and else 15 with the lowest block whose range the
+-- third finds to be another one.
+abbrev byBodies : (bad other n : ℕ) → FileAnswer
+byBodies bad other n = unless (eqb bad n) (Runs bad) (unless (eqb other n) (Range other) Done)
+
+-- The answer by the steps: a refusal of the first, and else what the bodies give.
 abbrev pub bySteps : List ℕ → FileAnswer
 bySteps l =
     unless (isDone (fileAnswer (contentsTests l (length l)))) (fileAnswer (contentsTests l (length l)))
-    (unless (eqb (badBody l) (count l)) (Runs (badBody l)) Done)
+    (byBodies (badBody l) (badRange l) (count l))
 
 module _ (l : List ℕ) where
   -- behind right contents the second step is refused exactly where a run index is out of range
@@ -40,25 +44,25 @@ module _ (l : List ℕ) where
       first-ext (count l) (λ i. hasGoodRuns (entryOf l i) (bodyOf l i)) (λ i. isDone (fileAnswer (bodyTests (entryOf l i) (bodyOf l i))))
       (λ i h. sym (ap isDone (body-tested l done i h) ∙ tested-done (hasGoodRuns (entryOf l i) (bodyOf l i))))
 
-  runs-answer : (b c : ℕ) → fileAnswer (good-runs b c ∷ []) ≡ unless (eqb b c) (Runs b) Done
-  runs-answer b c = go (eqb b c) refl
-    where
-      go : (t : Bool) → eqb b c ≡ t → fileAnswer (good-runs b c ∷ []) ≡ unless t (Runs b) Done
-      go true e = passed _ _ e ∙ none-left
-      go false e = stopped _ _ e
+  bodies-answer : (bad other n : ℕ) → fileAnswer (good-runs bad n ∷ true-ranges other n ∷ []) ≡ byBodies bad other n
+  unfolding fileAnswer
+  bodies-answer bad other n = refl
 
   pub file-steps : fileAnswer (fileTests l) ≡ bySteps l
   file-steps = go (isDone (fileAnswer (contentsTests l (length l)))) refl
     where
+      last : List FileTest
+      last = good-runs (badRuns l) (count l) ∷ true-ranges (badRange l) (count l) ∷ []
+
       go : (t : Bool) → isDone (fileAnswer (contentsTests l (length l))) ≡ t
-          → fileAnswer (fileTests l) ≡ unless t (fileAnswer (contentsTests l (length l))) (unless (eqb (badBody l) (count l)) (Runs (badBody l)) Done)
+          → fileAnswer (fileTests l) ≡ unless t (fileAnswer (contentsTests l (length l))) (byBodies (badBody l) (badRange l) (count l))
       go true e =
           let done = number-done (fileAnswer (contentsTests l (length l))) (eqb-true (numberOf (fileAnswer (contentsTests l (length l)))) 0 e) in
-          in-front-done (contentsTests l (length l)) (good-runs (badRuns l) (count l) ∷ []) done
-          ∙ runs-answer (badRuns l) (count l)
-          ∙ ap (λ b. unless (eqb b (count l)) (Runs b) Done) (same-bad done)
+          in-front-done (contentsTests l (length l)) last done
+          ∙ bodies-answer (badRuns l) (badRange l) (count l)
+          ∙ ap (λ b. byBodies b (badRange l) (count l)) (same-bad done)
       go false e =
-          in-front-refused (contentsTests l (length l)) (good-runs (badRuns l) (count l) ∷ [])
+          in-front-refused (contentsTests l (length l)) last
           (λ d. eqb-false (numberOf (fileAnswer (contentsTests l (length l)))) 0 e (ap numberOf d))
 
   -- A refused block out leaves its output as it was.

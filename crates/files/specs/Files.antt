@@ -1,14 +1,18 @@
--- The column file (document 02, Item 1): where a body stands, the blocks and the rows of a file, and what the check, one block out and the
+-- The column file (document 02, Items 1 and 9): where a body stands, the blocks and the rows of a file, and what the check, one block out and the
 -- value at a file row answer and leave. `l` is the file, a list of bytes.
 -- Assumes nothing.
+use mathlib.Core.Bool.{Bool, true}
 use mathlib.Core.List.{List, [], _∷_, _++_}
 use Prim.Native.Nat.{ℕ, _*_, _/_, _%_}
+use lib.Dec.{eqb}
 use lib.ListN.{length, getD, take, drop}
+use Rattle.places.specs.Pick.{pick}
 use Rattle.places.specs.Tab.{tab}
-use Rattle.contents.specs.Answers.{FileTest, a-block, a-number, good-runs, fileAnswer, left}
-use Rattle.contents.specs.Contents.{count, entryOf, bodyStart, contentsTests}
+use Rattle.contents.specs.Answers.{FileTest, a-block, a-number, good-runs, true-ranges, fileAnswer, left}
+use Rattle.contents.specs.Contents.{edition, count, entryOf, rangeOf, bodyStart, contentsTests}
 use Rattle.contents.specs.First.{firstBad}
 use Rattle.bodies.specs.Bodies.{blockOf, hasGoodRuns}
+use Rattle.bodies.specs.Ranges.{isRange}
 
 -- Body i stands behind the contents and the bodies before it, and has as many bytes as its entry says.
 unfoldable pub bodyOf : (l : List ℕ) (i : ℕ) → List ℕ
@@ -34,9 +38,18 @@ rowsOf l = tab (rowCount l) (rowAt l)
 unfoldable pub badRuns : List ℕ → ℕ
 badRuns l = firstBad (count l) (λ i. hasGoodRuns (entryOf l i) (bodyOf l i))
 
--- The tests of a whole file are, in Item 1's order, those of its contents against its length, and then that of the run indices.
+-- In edition 2 the range that entry i says has to be the true one of its block; in edition 1 it says none.
+unfoldable pub hasTrueRange : (l : List ℕ) (i : ℕ) → Bool
+hasTrueRange l i = pick (eqb (edition l) 2) (isRange (rangeOf l i) (blockIn l i)) true
+
+-- This is the lowest block whose range is not the true one, and the count where there is none.
+unfoldable pub badRange : List ℕ → ℕ
+badRange l = firstBad (count l) (hasTrueRange l)
+
+-- The tests of a whole file are, in the order of Items 1 and 9, those of its contents against its length, then that of the run indices, and
+-- then that of the ranges.
 abbrev pub fileTests : (l : List ℕ) → List FileTest
-fileTests l = contentsTests l (length l) ++ (good-runs (badRuns l) (count l) ∷ [])
+fileTests l = contentsTests l (length l) ++ (good-runs (badRuns l) (count l) ∷ true-ranges (badRange l) (count l) ∷ [])
 
 -- One block out tests its output first, and the number of the block last.
 abbrev pub blockTests : (l : List ℕ) (b : ℕ) (output : List ℕ) → List FileTest

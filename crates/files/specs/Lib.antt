@@ -1,3 +1,4 @@
 pub mod Files
+pub mod InnerRuns
 pub mod Plain
 pub mod Rows

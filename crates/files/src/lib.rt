@@ -1,36 +1,105 @@
-// The column file (document 02, Item 1): a check of the whole file, one block out, and the value at a file row. A file is lent as
-// bytes. Every call checks the whole file before it answers for a block or a row, by the two steps that stand in crates of
-// their own: the contents against the file's length, and each body against its entry. No call reads a body twice.
+// The column file (document 02, Items 1 and 9): a check of the whole file, one block out, and the value at a file row. A file is
+// lent as bytes. Every call checks the whole file before it answers for a block or a row, by the steps that stand in crates of
+// their own: the contents against the file's length, each body against its entry, and in edition 2 the smallest and the largest
+// value of each block against what its entry says. Of an edition 1 file no call reads a body twice; of an edition 2 file every
+// call lays each block down once for its smallest and largest value, and one block out lays its block down once more.
 use access::NO_COUNT;
 use access::Words;
+use bodies::is_range;
 use contents::Entry;
 use contents::FileAnswer;
+use contents::contents_length;
 use contents::count;
+use contents::edition;
 use contents::entry_or;
+use contents::range_or;
 ghost use mathlib.Core.Path.{_≡_};
+ghost use mathlib.Core.List.{[], _∷_};
 ghost use Prim.Native.Nat.{_<_};
 ghost use lib.Dec.{eqb};
 ghost use lib.ListN.{length};
 ghost use Rattle.places.specs.Pick.{pick, either};
 ghost use Rattle.contents.specs.declared.FileAnswer.the-variants.{Done, Runs};
-ghost use Rattle.contents.specs.Answers.{fileAnswer, numberOf};
-ghost use Rattle.contents.specs.Contents.{count as countIn, entryOf, bodyStart, contentsTests};
+ghost use Rattle.contents.specs.Answers.{true-ranges, fileAnswer, numberOf};
+ghost use Rattle.contents.specs.Contents.{edition as editionIn, count as countIn, entryOf, bodyStart, contentsTests};
 ghost use Rattle.contents.specs.First.{firstBad};
 ghost use Rattle.bodies.specs.Bodies.{hasGoodRuns};
-ghost use Rattle.files.specs.Files.{bodyOf, blockIn, fileTests, blockTests, blockLeaves};
+ghost use Rattle.files.specs.Files.{bodyOf, blockIn, hasTrueRange, badRange, fileTests, blockTests, blockLeaves};
+ghost use Rattle.files.specs.InnerRuns.{runsTests};
 ghost use Rattle.files.specs.Rows.{answerOf, valueOf, wordsOf, wordsIn, rowOf};
 
-// Checks the whole file. No block has the count for its number, so none is left out.
+// Checks the whole file.
 pub fn check(file: &[u8]) -> FileAnswer
     ensures { λ r. ⌜ r ≡ fileAnswer (fileTests (now (file .entry))) ⌝ }
+{
+    let answer = check_runs(file);
+    if answer.number() != 0 {
+        return answer;
+    }
+    check_ranges(file)
+}
+
+// Checks the ranges of a file that is right up to its run indices.
+fn check_ranges(file: &[u8]) -> FileAnswer
+    requires { ⌜ fileAnswer (runsTests (now file)) ≡ Done ⌝ }
+    ensures { λ r. ⌜ r ≡ fileAnswer (true-ranges (badRange (now (file .entry))) (countIn (now (file .entry))) ∷ []) ⌝ }
+{
+    if edition(file) != 2 {
+        return FileAnswer::Done;
+    }
+    let bad = false_range(file);
+    let n = count(file);
+    if bad == n {
+        return FileAnswer::Done;
+    }
+    FileAnswer::Range(bad)
+}
+
+// The lowest block whose range is not the true one, and the count where there is none, in an edition 2 file that is right up to
+// its run indices.
+fn false_range(file: &[u8]) -> usize
+    requires { ⌜ fileAnswer (runsTests (now file)) ≡ Done ⌝ }
+    requires { ⌜ editionIn (now file) ≡ 2 ⌝ }
+    ensures { λ r. ⌜ r ≡ badRange (now (file .entry)) ⌝ }
+{
+    let n = count(file);
+    let mut at = contents_length(file);
+    let mut i = 0;
+    while i < n {
+        if !has_true_range(file, i, at) {
+            return i;
+        }
+        let e = entry_or(file, i);
+        at += e.length as usize;
+        i += 1;
+    }
+    n
+}
+
+// Whether the range of block i, whose body begins at `at`, is the true one, in an edition 2 file that is right up to its run indices.
+fn has_true_range(file: &[u8], i: usize, at: usize) -> bool
+    requires { ⌜ fileAnswer (runsTests (now file)) ≡ Done ⌝ }
+    requires { ⌜ editionIn (now file) ≡ 2 ⌝ }
+    requires { ⌜ i < countIn (now file) ⌝ }
+    requires { ⌜ at ≡ bodyStart (now file) i ⌝ }
+    ensures { λ r. ⌜ r ≡ hasTrueRange (now (file .entry)) i ⌝ }
+{
+    let mut block = [0u64; 1024];
+    bodies::block_of(entry_or(file, i), body(file, i, at), &mut block);
+    is_range(range_or(file, i), &block)
+}
+
+// Checks the file up to the run indices. No block has the count for its number, so none is left out.
+fn check_runs(file: &[u8]) -> FileAnswer
+    ensures { λ r. ⌜ r ≡ fileAnswer (runsTests (now (file .entry))) ⌝ }
 {
     check_but(file, count(file))
 }
 
-// Checks the file but for the run indices of block b, which are looked at where that block is laid down. A refusal is that of the
-// whole file: where a later block is bad nothing is laid down, so block b is looked at here, and the lower one is reported.
+// The same but for the run indices of block b, which are looked at where that block is laid down. A refusal is that of all these
+// tests: where a later block is bad nothing is laid down, so block b is looked at here, and the lower one is reported.
 fn check_but(file: &[u8], b: usize) -> FileAnswer
-    ensures { λ r. ⌜ ((numberOf r ≡ 0 → ⊥) → r ≡ fileAnswer (fileTests (now (file .entry)))) ⌝ }
+    ensures { λ r. ⌜ ((numberOf r ≡ 0 → ⊥) → r ≡ fileAnswer (runsTests (now (file .entry)))) ⌝ }
     ensures { λ r. ⌜ (numberOf r ≡ 0 → fileAnswer (contentsTests (now (file .entry)) (length (now (file .entry)))) ≡ Done) ⌝ }
     ensures { λ r. ⌜ (numberOf r ≡ 0 → firstBad (countIn (now (file .entry))) (λ i. either (eqb i b) (hasGoodRuns (entryOf (now (file .entry)) i) (bodyOf (now (file .entry)) i))) ≡ countIn (now (file .entry))) ⌝ }
 {
@@ -58,7 +127,7 @@ fn first_bad_but(file: &[u8], b: usize) -> usize
     ensures { λ r. ⌜ r ≡ firstBad (countIn (now (file .entry))) (λ i. either (eqb i b) (hasGoodRuns (entryOf (now (file .entry)) i) (bodyOf (now (file .entry)) i))) ⌝ }
 {
     let n = count(file);
-    let mut at = 4 + n * 16;
+    let mut at = contents_length(file);
     let mut i = 0;
     while i < n {
         if i != b {
@@ -101,7 +170,7 @@ fn body_start(file: &[u8], b: usize) -> usize
     requires { ⌜ b < countIn (now file) ⌝ }
     ensures { λ r. ⌜ r ≡ bodyStart (now (file .entry)) b ⌝ }
 {
-    let mut at = 4 + count(file) * 16;
+    let mut at = contents_length(file);
     let mut i = 0;
     while i < b {
         let e = entry_or(file, i);
@@ -119,7 +188,7 @@ pub fn block_out(file: &[u8], b: usize, output: &mut [u64]) -> FileAnswer
     if output.len() != 1024 {
         return FileAnswer::Block;
     }
-    let answer = check_but(file, b);
+    let answer = check_for(file, b);
     if answer.number() != 0 {
         return answer;
     }
@@ -127,6 +196,20 @@ pub fn block_out(file: &[u8], b: usize, output: &mut [u64]) -> FileAnswer
         return FileAnswer::Beyond;
     }
     lay_down(file, b, output)
+}
+
+// Checks the file for one block out of it. The ranges are looked at behind all the run indices; where a file has no ranges the run indices of
+// block b can wait until that block is laid down.
+fn check_for(file: &[u8], b: usize) -> FileAnswer
+    ensures { λ r. ⌜ ((numberOf r ≡ 0 → ⊥) → r ≡ fileAnswer (fileTests (now (file .entry)))) ⌝ }
+    ensures { λ r. ⌜ (numberOf r ≡ 0 → fileAnswer (contentsTests (now (file .entry)) (length (now (file .entry)))) ≡ Done) ⌝ }
+    ensures { λ r. ⌜ (numberOf r ≡ 0 → firstBad (countIn (now (file .entry))) (λ i. either (eqb i b) (hasGoodRuns (entryOf (now (file .entry)) i) (bodyOf (now (file .entry)) i))) ≡ countIn (now (file .entry))) ⌝ }
+    ensures { λ r. ⌜ (numberOf r ≡ 0 → badRange (now (file .entry)) ≡ countIn (now (file .entry))) ⌝ }
+{
+    if edition(file) != 2 {
+        return check_but(file, b);
+    }
+    check(file)
 }
 
 // Lays block b down, in a file whose contents are right. Where a run index is out of range, block_of finds it and writes nothing.

@@ -12,8 +12,8 @@ use Rattle.candidates.proofs.Calls.{lowest-highest, differences-left, m
 use Rattle.candidates.proofs.measure.Statement.{statement}
 use Rattle.candidates.proofs.measure.Tie as tie
 
-ends-of-requires : tie.Need-ends-of-requires
-ends-of-requires c κs = search needs
+range-of-requires : tie.Need-range-of-requires
+range-of-requires c κs = search needs
 
 slice-aggregate-delta : tie.Need-slice-aggregate-delta
 slice-aggregate-delta c = sym (length-take-le 16 (now (c .before .before .before .before .args .values)) (omega arith))
@@ -26,9 +26,9 @@ width-of-requires c κs = search needs
 
 sub-width-of : tie.Need-sub-width-of
 sub-width-of c =
-    let ends = c .before .before .before .before .before .before .before in
-    let values = now (ends .before .before .before .args .values) in
-    omega (arith, lowest-highest values (omega arith), ends .ends-of .ensures)
+    let range = c .before .before .before .before .before .before .before in
+    let values = now (range .before .before .before .args .values) in
+    omega (arith, lowest-highest values (omega arith), range .range-of .ensures)
 
 width-of-requires-2 : tie.Need-width-of-requires-2
 width-of-requires-2 c κs = search needs
@@ -48,15 +48,15 @@ returns c =
     let second = last .before .before in
     let first = second .before .before in
     let out = first .before .before .before in
-    let ends = out .before .before .before in
-    let known = ends .before .before in
+    let range = out .before .before .before in
+    let known = range .before .before in
     let args = known .before .args in
     let values = now (args .values) in
     let small : Elements t64 values = λ i. omega (arith, known .shared-slice-known .given i) in
     let left = out .delta .ensures .1 ∙ differences-left values (omega arith) (now (args .differences)) (omega arith) in (
       measured values (omega arith) _ _ _ _ _ _ small
-          (ends .ends-of .ensures .0)
-          (ends .ends-of .ensures .1)
+          (range .range-of .ensures .0)
+          (range .range-of .ensures .1)
           (first .width-of .ensures .0)
           (second .width-of2 .ensures .0)
           (last .any-bits .ensures ∙ ap widthOf left)
@@ -68,7 +68,7 @@ pub measure-spec : {M : Type 1} → statement M
 measure-spec =
     tie.close
     (tie.spec
-    ends-of-requires
+    range-of-requires
     slice-aggregate-delta
     delta-requires
     width-of-requires

@@ -4,23 +4,31 @@ use mathlib.Core.Path.{_≡_, sym, ap, ap₂, _∙_}
 use Prim.Native.Nat.{_+_, _*_, _-_, _≤_}
 use native.Mathlib.Numerals.{add-one}
 use native.Mathlib.Omega.{arith}
+use denote.Ref.{now}
 use borrow.Author.Needs.{needs}
-use Rattle.contents.specs.Contents.{bodiesSize, entryOf}
+use Rattle.contents.specs.Contents.{bodiesSize, contentsSize, entryAt, entryOf}
+use Rattle.contents.proofs.Sizes.{size-entry, size-before, size-most}
 use Rattle.contents.proofs.bodies_of.Statement.{statement}
 use Rattle.contents.proofs.bodies_of.Tie as tie
 
 abbrev Inv-loop : tie.InvT-loop
-Inv-loop front n sum₀ i₀ sum i = (i ≤ n) × (sum ≡ bodiesSize front i) × (sum ≤ 4294967296 * i)
+Inv-loop front edition n sum₀ i₀ sum i = (i ≤ n) × (sum ≡ bodiesSize front i) × (sum ≤ 4294967296 * i)
 
 abbrev μ-loop : tie.MeasureT-loop
-μ-loop front n sum₀ i₀ sum i = n - i
+μ-loop front edition n sum₀ i₀ sum i = n - i
 
 loop-holds : tie.Need-loop-holds Inv-loop μ-loop
 unfolding bodiesSize
 loop-holds c = search needs
 
-entry-of-requires : tie.Need-entry-of-requires Inv-loop μ-loop
-entry-of-requires c κs = search needs
+contents-size-requires : tie.Need-contents-size-requires Inv-loop μ-loop
+contents-size-requires c κs = let args = c .before .before .before .args in omega (arith, size-most (args .edition) (c .before .loop .i))
+
+entry-at-requires : tie.Need-entry-at-requires Inv-loop μ-loop
+entry-at-requires c κs =
+    let args = c .before .before .before .before .args in
+    let i = c .before .before .loop .i in
+    omega (arith, c .contents-size .ensures, size-entry (args .edition) i, size-before (args .edition) i (args .n) (omega arith))
 
 cast-sum : tie.Need-cast-sum Inv-loop μ-loop
 cast-sum c = search needs
@@ -34,12 +42,21 @@ add-i c = search needs
 loop-less : tie.Need-loop-less Inv-loop μ-loop
 loop-less c = search needs
 
+-- the entry that was read
+entry-is : (c : tie.After-entry-at Inv-loop μ-loop) → c .entry-at .result ≡ entryOf (now (c .before .before .before .before .before .args .front)) (c .before .before .before .loop .i)
+unfolding entryOf
+entry-is c =
+    let start = c .before .before .before .before .before in
+    let l = now (start .args .front) in
+    c .entry-at .ensures
+    ∙ ap (entryAt l) (c .before .contents-size .ensures ∙ ap (λ e. contentsSize e (c .before .before .before .loop .i)) (start .pre .0))
+
 loop-again : tie.Need-loop-again Inv-loop μ-loop
 unfolding bodiesSize
 loop-again c =
-    let loop = c .before .before .before .loop in (
+    let loop = c .before .before .before .before .loop in (
       omega arith,
-      ap₂ _+_ (loop .inv .1) (ap (λ e. e .length) (c .before .entry-of .ensures)) ∙ sym (ap (bodiesSize _) (add-one (loop .i))),
+      ap₂ _+_ (loop .inv .1) (ap (λ e. e .length) (entry-is (c .before))) ∙ sym (ap (bodiesSize _) (add-one (loop .i))),
       omega arith,
     )
 
@@ -55,7 +72,8 @@ bodies-of-spec =
     Inv-loop
     μ-loop
     loop-holds
-    entry-of-requires
+    contents-size-requires
+    entry-at-requires
     cast-sum
     add-sum
     add-i

@@ -10,18 +10,19 @@ use Rattle.contents.specs.declared.FileAnswer.the-variants.{Done}
 use Rattle.contents.specs.Answers.{numberOf, fileAnswer, left}
 use Rattle.contents.specs.Contents.{count, contentsTests}
 use Rattle.contents.proofs.Answers.{left-refused}
-use Rattle.files.specs.Files.{blockTests, blockIn, blockLeaves}
-use Rattle.files.proofs.Calls.{bad-output, block-refused, block-beyond, block-decides, block-leaves}
+use Rattle.files.specs.Files.{blockIn, badRange, fileTests, blockTests, blockLeaves}
+use Rattle.files.proofs.Calls.{bad-output, block-refused, block-beyond, file-done, block-decides, block-leaves}
 use Rattle.files.proofs.Files.{count-read}
-use Rattle.files.proofs.Others.{badBut, none-bad}
+use Rattle.files.proofs.Others.{badBut}
 use Rattle.files.proofs.block_out.Statement.{statement}
 use Rattle.files.proofs.block_out.Tie as tie
 
--- the contents are right where the number is 0, and every other block is good
-rest : (c : tie.Else2) → (fileAnswer (contentsTests (now (c .before .before .before .before .before .before .args .file)) (length (now (c .before .before .before .before .before .before .args .file)))) ≡ Done) × (badBut (now (c .before .before .before .before .before .before .args .file)) (c .before .before .before .before .before .before .args .b) ≡ count (now (c .before .before .before .before .before .before .args .file)))
+-- the contents are right where the number is 0, every other block is good, and every range the true one
+rest : (c : tie.Else2) → (fileAnswer (contentsTests (now (c .before .before .before .before .before .before .args .file)) (length (now (c .before .before .before .before .before .before .args .file)))) ≡ Done) × ((badBut (now (c .before .before .before .before .before .before .args .file)) (c .before .before .before .before .before .before .args .b) ≡ count (now (c .before .before .before .before .before .before .args .file))) × (badRange (now (c .before .before .before .before .before .before .args .file)) ≡ count (now (c .before .before .before .before .before .before .args .file))))
 rest c =
     let number = sym (c .before .number .ensures) ∙ c .if2 .left in
-    (c .before .before .check-but .ensures .1 .0 number, c .before .before .check-but .ensures .1 .1 number)
+    let asked = c .before .before .check-for .ensures in
+    (asked .1 .0 number, (asked .1 .1 .0 number, asked .1 .1 .1 number))
 
 -- the count that was read
 count-is : (c : tie.After-count) → c .count .result ≡ count (now (c .before .before .before .before .before .before .before .args .file))
@@ -31,10 +32,10 @@ count-is c =
 
 returns : tie.Need-returns
 unfolding blockLeaves
-returns c = rw (bad-output (now (c .before .before .before .args .file)) _ _ (c .if1 .taken)) (refl, refl)
+returns c = rw (bad-output (fileTests (now (c .before .before .before .args .file))) _ (count (now (c .before .before .before .args .file))) _ (c .if1 .taken)) (refl, refl)
 
-check-but-requires : tie.Need-check-but-requires
-check-but-requires c κs = search needs
+check-for-requires : tie.Need-check-for-requires
+check-for-requires c κs = search needs
 
 number-requires : tie.Need-number-requires
 number-requires c κs = search needs
@@ -45,9 +46,9 @@ returns-2 c =
     let asked = c .before .before in
     let start = asked .before .before .before .before in
     let l = now (start .args .file) in
-    let refused : numberOf (asked .check-but .result) ≡ 0 → ⊥ = λ e. c .if2 .taken (c .before .number .ensures ∙ e) in
-    let file = asked .check-but .ensures .0 refused in
-    let bad = block-refused l (start .args .b) (now (start .args .output)) (omega arith) (λ e. refused (ap numberOf file ∙ e)) in
+    let refused : numberOf (asked .check-for .result) ≡ 0 → ⊥ = λ e. c .if2 .taken (c .before .number .ensures ∙ e) in
+    let file = asked .check-for .ensures .0 refused in
+    let bad = block-refused (fileTests l) (start .args .b) (count l) (now (start .args .output)) (omega arith) (λ e. refused (ap numberOf file ∙ e)) in
     (file ∙ sym bad, sym (left-refused (fileAnswer (blockTests l (start .args .b) (now (start .args .output)))) (blockIn l (start .args .b)) (now (start .args .output)) (λ e. refused (ap numberOf (file ∙ sym bad) ∙ e))))
 
 count-requires : tie.Need-count-requires
@@ -61,8 +62,8 @@ returns-3 c =
     let l = now (start .args .file) in
     let others = rest (at .before) in
     let high : count l ≤ start .args .b = omega (arith, count-is at, c .if3 .taken) in
-    let done = none-bad l (others .0) (start .args .b) (others .1) (λ h. absurd (omega arith)) in
-    rw (block-beyond l (start .args .b) (now (start .args .output)) (omega arith) done high) (refl, refl)
+    let done = file-done l (start .args .b) (others .0) (others .1 .0) (others .1 .1) (λ h. absurd (omega arith)) in
+    rw (block-beyond (fileTests l) (start .args .b) (count l) (now (start .args .output)) (omega arith) done high) (refl, refl)
 
 lay-down-requires : tie.Need-lay-down-requires
 lay-down-requires c κs =
@@ -81,8 +82,8 @@ returns-4 c =
     let output = now (start .args .output) in
     let others = rest (at .before) in
     let low : b < count l = omega (arith, count-is at, c .before .before .before .before .if3 .left) in (
-      c .before .before .lay-down .ensures .0 ∙ sym (block-decides l b output (omega arith) (others .0) (others .1) low),
-      c .before .before .lay-down .ensures .1 ∙ sym (block-leaves l b output (omega arith) (others .0) (others .1) low),
+      c .before .before .lay-down .ensures .0 ∙ sym (block-decides l b (others .0) (others .1 .0) (others .1 .1) output (omega arith) low),
+      c .before .before .lay-down .ensures .1 ∙ sym (block-leaves l b (others .0) (others .1 .0) (others .1 .1) output (omega arith) low),
     )
 
 pub block-out-spec : {M : Type 1} → statement M
@@ -90,7 +91,7 @@ block-out-spec =
     tie.close
     (tie.spec
     returns
-    check-but-requires
+    check-for-requires
     number-requires
     returns-2
     count-requires

@@ -1,13 +1,13 @@
 -- `files::body_start` meets its contract. The loop's invariant: `at` is where body i begins.
 -- Assumes nothing.
 use mathlib.Core.Path.{_≡_, sym, ap, ap₂, _∙_}
-use Prim.Native.Nat.{_+_, _*_, _-_, _≤_, zero-le}
+use Prim.Native.Nat.{_+_, _-_, _≤_, zero-le}
 use native.Mathlib.Numerals.{add-one}
 use native.Mathlib.Omega.{arith}
 use denote.Ref.{now}
 use borrow.Author.Needs.{needs}
-use Rattle.contents.specs.Contents.{count, entryOf, bodyStart}
-use Rattle.files.proofs.Files.{whole, count-read, entry-read, body-ends, next-start, first-start}
+use Rattle.contents.specs.Contents.{entryOf, bodyStart}
+use Rattle.files.proofs.Files.{length-read, entry-read, body-ends, next-start}
 use Rattle.files.proofs.body_start.Statement.{statement}
 use Rattle.files.proofs.body_start.Tie as tie
 
@@ -24,21 +24,13 @@ entry-is c =
     let start = at-loop .before .before .before in
     c .entry-or .ensures ∙ entry-read (now (start .args .file)) (start .pre .0) (at-loop .loop .i) (omega arith)
 
-count-requires : tie.Need-count-requires Inv-loop μ-loop
-count-requires c κs = search needs
-
-mul-at : tie.Need-mul-at Inv-loop μ-loop
-mul-at c = omega (arith, count-read (now (c .before .before .args .file)) (c .before .before .pre .0), whole (now (c .before .before .args .file)) (c .before .before .pre .0) .few)
-
-add-at : tie.Need-add-at Inv-loop μ-loop
-add-at c = omega (arith, count-read (now (c .before .before .args .file)) (c .before .before .pre .0), whole (now (c .before .before .args .file)) (c .before .before .pre .0) .few)
+contents-length-requires : tie.Need-contents-length-requires Inv-loop μ-loop
+contents-length-requires c κs = search needs
 
 loop-holds : tie.Need-loop-holds Inv-loop μ-loop
 loop-holds c =
     let start = c .before .before in
-    let l = now (start .args .file) in
-    let n : c .count .result ≡ count l = c .count .ensures ∙ count-read l (start .pre .0) in
-    (zero-le, ap (λ n. 4 + n * 16) n ∙ sym (first-start l (start .pre .0)))
+    (zero-le, c .contents-length .ensures ∙ length-read (now (start .args .file)) (start .pre .0))
 
 entry-or-requires : tie.Need-entry-or-requires Inv-loop μ-loop
 entry-or-requires c κs = search needs
@@ -46,8 +38,8 @@ entry-or-requires c κs = search needs
 cast-at : tie.Need-cast-at Inv-loop μ-loop
 cast-at c = search needs
 
-add-at-2 : tie.Need-add-at-2 Inv-loop μ-loop
-add-at-2 c =
+add-at : tie.Need-add-at Inv-loop μ-loop
+add-at c =
     let got = c .before in
     let at-loop = got .before .before in
     let start = at-loop .before .before .before in
@@ -83,13 +75,11 @@ body-start-spec =
     (tie.spec
     Inv-loop
     μ-loop
-    count-requires
-    mul-at
-    add-at
+    contents-length-requires
     loop-holds
     entry-or-requires
     cast-at
-    add-at-2
+    add-at
     add-i
     loop-less
     loop-again

@@ -1,34 +1,40 @@
--- `files::check` meets its contract: no block is left out.
+-- `files::check` meets its contract: the tests up to the run indices first, and behind these the ranges.
 -- Assumes nothing.
-use mathlib.Core.Path.{sym, _∙_}
-use native.Mathlib.Decide.{ℕ-discrete}
-use native.Mathlib.Omega.{arith}
+use mathlib.Core.Path.{_≡_, sym, ap, _∙_}
 use denote.Ref.{now}
 use borrow.Author.Needs.{needs}
-use Rattle.contents.specs.Answers.{numberOf}
+use Rattle.contents.specs.declared.FileAnswer.the-variants.{Done}
+use Rattle.contents.specs.Answers.{fileAnswer, numberOf}
 use Rattle.contents.proofs.Answers.{number-done}
-use Rattle.files.proofs.Files.{count-read}
-use Rattle.files.proofs.Others.{none-bad}
+use Rattle.files.specs.InnerRuns.{runsTests}
+use Rattle.files.proofs.Ranges.{file-refused, file-ranges}
 use Rattle.files.proofs.check.Statement.{statement}
 use Rattle.files.proofs.check.Tie as tie
 
-count-requires : tie.Need-count-requires
-count-requires c κs = search needs
+-- the tests up to the run indices are passed where the number is 0
+runs-done : (c : tie.Else1) → fileAnswer (runsTests (now (c .before .before .before .before .args .file))) ≡ Done
+runs-done c = sym (c .before .before .check-runs .ensures) ∙ number-done _ (sym (c .before .number .ensures) ∙ c .if1 .left)
 
-check-but-requires : tie.Need-check-but-requires
-check-but-requires c κs = search needs
+check-runs-requires : tie.Need-check-runs-requires
+check-runs-requires c κs = search needs
+
+number-requires : tie.Need-number-requires
+number-requires c κs = search needs
 
 returns : tie.Need-returns
 returns c =
-    let l = now (c .before .before .before .args .file) in
-    let r = c .check-but .result in
-    elim (ℕ-discrete (numberOf r) 0) [
-      | yes z ↦
-          let right = c .check-but .ensures .1 .0 z in
-          number-done r z
-          ∙ sym (none-bad l right (c .before .count .result) (c .check-but .ensures .1 .1 z) (λ h. absurd (omega (arith, c .before .count .ensures, count-read l right))))
-      | no n ↦ c .check-but .ensures .0 n
-    ]
+    let asked = c .before .before in
+    let l = now (asked .before .before .args .file) in
+    asked .check-runs .ensures
+    ∙ sym (file-refused l (λ e. c .if1 .taken (c .before .number .ensures ∙ ap numberOf (asked .check-runs .ensures) ∙ e)))
+
+check-ranges-requires : tie.Need-check-ranges-requires
+check-ranges-requires c κs = runs-done c
+
+returns-2 : tie.Need-returns-2
+returns-2 c =
+    let passed = c .before in
+    c .check-ranges .ensures ∙ sym (file-ranges (now (passed .before .before .before .before .args .file)) (runs-done passed))
 
 pub check-spec : {M : Type 1} → statement M
-check-spec = tie.close (tie.spec count-requires check-but-requires returns)
+check-spec = tie.close (tie.spec check-runs-requires number-requires returns check-ranges-requires returns-2)

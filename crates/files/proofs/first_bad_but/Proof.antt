@@ -4,7 +4,7 @@
 use mathlib.Core.Bool.{true}
 use mathlib.Core.Logic.{⊎-elim}
 use mathlib.Core.Path.{_≡_, sym, ap, ap₂, _∙_}
-use Prim.Native.Nat.{ℕ, _+_, _*_, _-_, _≤_, _<_, zero-le}
+use Prim.Native.Nat.{ℕ, _+_, _-_, _≤_, _<_, zero-le}
 use native.Mathlib.Numerals.{add-one}
 use native.Mathlib.Omega.{arith}
 use denote.Ref.{now}
@@ -15,7 +15,7 @@ use borrow.Author.Tests.{eq-eqb, ne-eqb, not-true, not-false}
 use Rattle.places.specs.Pick.{either}
 use Rattle.contents.specs.Contents.{count, entryOf, bodyStart}
 use Rattle.contents.proofs.First.{first-only}
-use Rattle.files.proofs.Files.{goodIn, whole, count-read, entry-read, body-ends, next-start, first-start}
+use Rattle.files.proofs.Files.{goodIn, count-read, length-read, entry-read, body-ends, next-start}
 use Rattle.files.proofs.first_bad_but.Statement.{statement}
 use Rattle.files.proofs.first_bad_but.Tie as tie
 
@@ -27,17 +27,17 @@ abbrev μ-loop : tie.MeasureT-loop
 μ-loop file b n at₀ i₀ at i = n - i
 
 -- the entry that was read is that of block i
-entry-is : (c : tie.After-entry-or Inv-loop μ-loop) → c .entry-or .result ≡ entryOf (now (c .before .before .before .before .before .before .args .file)) (c .before .before .before .loop .i)
+entry-is : (c : tie.After-entry-or Inv-loop μ-loop) → c .entry-or .result ≡ entryOf (now (c .before .before .before .before .before .before .before .args .file)) (c .before .before .before .loop .i)
 entry-is c =
     let at-loop = c .before .before .before in
-    let start = at-loop .before .before .before in
+    let start = at-loop .before .before .before .before in
     c .entry-or .ensures ∙ entry-read (now (start .args .file)) (start .pre) (at-loop .loop .i) (omega arith)
 
 -- block i is block b, or its body was found good
-passed-over : (c : tie.Joined1 Inv-loop μ-loop) → either (eqb (c .before .before .loop .i) (c .before .before .before .before .before .args .b)) (goodIn (now (c .before .before .before .before .before .args .file)) (c .before .before .loop .i)) ≡ true
+passed-over : (c : tie.Joined1 Inv-loop μ-loop) → either (eqb (c .before .before .loop .i) (c .before .before .before .before .before .before .args .b)) (goodIn (now (c .before .before .before .before .before .before .args .file)) (c .before .before .loop .i)) ≡ true
 passed-over c =
     let at-loop = c .before .before in
-    let start = at-loop .before .before .before in
+    let start = at-loop .before .before .before .before in
     let i = at-loop .loop .i in
     let good = goodIn (now (start .args .file)) i in
     ⊎-elim
@@ -48,29 +48,25 @@ passed-over c =
 count-requires : tie.Need-count-requires Inv-loop μ-loop
 count-requires c κs = search needs
 
-mul-at : tie.Need-mul-at Inv-loop μ-loop
-mul-at c = omega (arith, count-read (now (c .before .before .args .file)) (c .before .before .pre), whole (now (c .before .before .args .file)) (c .before .before .pre) .few)
-
-add-at : tie.Need-add-at Inv-loop μ-loop
-add-at c = omega (arith, count-read (now (c .before .before .args .file)) (c .before .before .pre), whole (now (c .before .before .args .file)) (c .before .before .pre) .few)
+contents-length-requires : tie.Need-contents-length-requires Inv-loop μ-loop
+contents-length-requires c κs = search needs
 
 loop-holds : tie.Need-loop-holds Inv-loop μ-loop
 loop-holds c =
-    let start = c .before .before in
+    let start = c .before .before .before in
     let l = now (start .args .file) in
-    let n : c .count .result ≡ count l = c .count .ensures ∙ count-read l (start .pre) in
-    (zero-le, n, ap (λ n. 4 + n * 16) n ∙ sym (first-start l (start .pre)), below-none _)
+    (zero-le, c .before .count .ensures ∙ count-read l (start .pre), c .contents-length .ensures ∙ length-read l (start .pre), below-none _)
 
 is-good-requires : tie.Need-is-good-requires Inv-loop μ-loop
 is-good-requires c κs =
     let at-loop = c .before .before in
-    (at-loop .before .before .before .pre, (omega arith, at-loop .loop .inv .2))
+    (at-loop .before .before .before .before .pre, (omega arith, at-loop .loop .inv .2))
 
 returns : tie.Need-returns Inv-loop μ-loop
 returns c =
     let tested = c .before in
     let at-loop = tested .before .before .before in
-    let start = at-loop .before .before .before in
+    let start = at-loop .before .before .before .before in
     let l = now (start .args .file) in
     let b = start .args .b in
     let i = at-loop .loop .i in
@@ -83,11 +79,11 @@ entry-or-requires c κs = search needs
 cast-at : tie.Need-cast-at Inv-loop μ-loop
 cast-at c = search needs
 
-add-at-2 : tie.Need-add-at-2 Inv-loop μ-loop
-add-at-2 c =
+add-at : tie.Need-add-at Inv-loop μ-loop
+add-at c =
     let got = c .before in
     let at-loop = got .before .before .before in
-    let start = at-loop .before .before .before in
+    let start = at-loop .before .before .before .before in
     omega (arith, body-ends (now (start .args .file)) (start .pre) (at-loop .loop .i) (omega arith), ap (λ e. e .length) (entry-is got), at-loop .loop .inv .2)
 
 add-i : tie.Need-add-i Inv-loop μ-loop
@@ -100,7 +96,7 @@ loop-again : tie.Need-loop-again Inv-loop μ-loop
 loop-again c =
     let got = c .before in
     let at-loop = got .before .before .before in
-    let start = at-loop .before .before .before in
+    let start = at-loop .before .before .before .before in
     let l = now (start .args .file) in
     let i = at-loop .loop .i in (
       omega arith,
@@ -112,7 +108,7 @@ loop-again c =
 returns-2 : tie.Need-returns-2 Inv-loop μ-loop
 returns-2 c =
     let at-loop = c .before in
-    let start = at-loop .before .before .before in
+    let start = at-loop .before .before .before .before in
     let l = now (start .args .file) in
     let all : at-loop .loop .i ≡ count l = omega (arith, at-loop .loop .inv .0, at-loop .loop .inv .1) in
     at-loop .loop .inv .1
@@ -126,14 +122,13 @@ first-bad-but-spec =
     Inv-loop
     μ-loop
     count-requires
-    mul-at
-    add-at
+    contents-length-requires
     loop-holds
     is-good-requires
     returns
     entry-or-requires
     cast-at
-    add-at-2
+    add-at
     add-i
     loop-less
     loop-again

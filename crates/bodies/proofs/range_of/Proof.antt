@@ -1,28 +1,28 @@
--- `candidates::ends_of` meets its contract: the lowest and the highest number of the places passed, with those to come, are those of all.
+-- `bodies::range_of` meets its contract: the lowest and the highest number of the places passed, with those to come, are those of all.
 -- Assumes nothing.
 use mathlib.Core.Logic.{⊎-elim}
 use Prim.Native.Nat.{_-_}
 use native.Mathlib.Omega.{arith}
 use lib.ListN.{length}
 use Rattle.runs.proofs.Highs.{Passed as Highs, passed-none as highs-none, passed-next as highs-next, passed-all as highs-all}
-use Rattle.candidates.proofs.Widths.{Passed as Lows, passed-none as lows-none, passed-next as lows-next, passed-all as lows-all}
-use Rattle.candidates.proofs.ends_of.Statement.{statement}
-use Rattle.candidates.proofs.ends_of.Tie as tie
+use Rattle.bodies.proofs.Lows.{Passed as Lows, passed-none as lows-none, passed-next as lows-next, passed-all as lows-all}
+use Rattle.bodies.proofs.range_of.Statement.{statement}
+use Rattle.bodies.proofs.range_of.Tie as tie
 
 abbrev Inv-loop : tie.InvT-loop
-Inv-loop numbers low₀ high₀ i₀ low high i = Lows numbers low i × Highs numbers high i
+Inv-loop values low₀ high₀ i₀ low high i = Lows values low i × Highs values high i
 
 abbrev μ-loop : tie.MeasureT-loop
-μ-loop numbers low₀ high₀ i₀ low high i = length numbers - i
+μ-loop values low₀ high₀ i₀ low high i = length values - i
 
 loop-holds : tie.Need-loop-holds Inv-loop μ-loop
 loop-holds c = (lows-none _, highs-none _)
 
-mul-number : tie.Need-mul-number Inv-loop μ-loop
-mul-number c = omega arith
+mul-value : tie.Need-mul-value Inv-loop μ-loop
+mul-value c = omega arith
 
-shared-slice-read-number : tie.Need-shared-slice-read-number Inv-loop μ-loop
-shared-slice-read-number c = omega arith
+shared-slice-read-value : tie.Need-shared-slice-read-value Inv-loop μ-loop
+shared-slice-read-value c = omega arith
 
 add-i : tie.Need-add-i Inv-loop μ-loop
 add-i c = omega arith
@@ -41,15 +41,15 @@ loop-again c =
 returns : tie.Need-returns Inv-loop μ-loop
 returns c = (lows-all (c .before .loop .inv .0) (c .loop-test .left), highs-all (c .before .loop .inv .1) (c .loop-test .left))
 
-pub ends-of-spec : {M : Type 1} → statement M
-ends-of-spec =
+pub range-of-spec : {M : Type 1} → statement M
+range-of-spec =
     tie.close
     (tie.spec
     Inv-loop
     μ-loop
     loop-holds
-    mul-number
-    shared-slice-read-number
+    mul-value
+    shared-slice-read-value
     add-i
     loop-less
     loop-again

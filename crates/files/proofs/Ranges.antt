@@ -1,0 +1,78 @@
+-- The test of the ranges, behind those up to the run indices: a file of another edition than 2 passes it, and where all are passed every
+-- block is good.
+-- Assumes nothing.
+use mathlib.Core.Bool.{true}
+use mathlib.Core.List.{List, [], _∷_}
+use mathlib.Core.Path.{_≡_, refl, sym, ap, ap₂, _∙_}
+use Prim.Native.Nat.{ℕ, _≤_, _<_}
+use native.Mathlib.Omega.{arith}
+use lib.ListN.{length}
+use borrow.Author.Tests.{eq-eqb, ne-eqb, eqb-true}
+use Rattle.places.specs.Pick.{pick}
+use Rattle.contents.specs.declared.FileAnswer.the-variants.{Done, Range}
+use Rattle.contents.specs.Answers.{good-runs, true-ranges, fileAnswer, numberOf}
+use Rattle.contents.specs.Contents.{edition, count, editionOr, entryOr, rangeOf, rangeOr, contentsTests}
+use Rattle.contents.proofs.Accepted.{done-first, done-front}
+use Rattle.contents.proofs.Answers.{passed, stopped, none-left, in-front-done, in-front-refused}
+use Rattle.contents.proofs.First.{first-only, first-before}
+use Rattle.bodies.specs.Bodies as Bodies
+use Rattle.bodies.specs.Ranges.{isRange}
+use Rattle.files.specs.Files.{bodyOf, blockIn, hasTrueRange, badRuns, badRange, fileTests}
+use Rattle.files.specs.InnerRuns.{runsTests}
+use Rattle.files.proofs.Files.{goodIn, edition-read, entry-read, range-read, block-left}
+
+module _ (l : List ℕ) where
+  -- contents that are right are right in front of whatever is tested behind them
+  pub contents-right : fileAnswer (runsTests l) ≡ Done → fileAnswer (contentsTests l (length l)) ≡ Done
+  contents-right done = done-front (contentsTests l (length l)) (good-runs (badRuns l) (count l) ∷ []) done .0
+
+  -- Where the tests up to the run indices are passed, every block has its run indices in range.
+  pub runs-good : fileAnswer (runsTests l) ≡ Done → (i : ℕ) → i < count l → goodIn l i ≡ true
+  unfolding badRuns
+  runs-good done i h =
+      let last = done-front (contentsTests l (length l)) (good-runs (badRuns l) (count l) ∷ []) done .1 in
+      let all : badRuns l ≡ count l = eqb-true (badRuns l) (count l) (done-first _ _ last .0) in
+      first-before (count l) (goodIn l) i (omega arith)
+
+  -- The tests of a file are those up to the run indices, and that of the ranges.
+  pub file-runs : fileAnswer (fileTests l) ≡ Done → fileAnswer (runsTests l) ≡ Done
+  file-runs done = done-front (runsTests l) (true-ranges (badRange l) (count l) ∷ []) done .0
+
+  -- Where those up to the run indices refuse the file, that is its answer; where they do not, the ranges decide.
+  pub file-refused : (numberOf (fileAnswer (runsTests l)) ≡ 0 → ⊥) → fileAnswer (fileTests l) ≡ fileAnswer (runsTests l)
+  file-refused refused = in-front-refused (runsTests l) (true-ranges (badRange l) (count l) ∷ []) (λ d. refused (ap numberOf d))
+
+  pub file-ranges : fileAnswer (runsTests l) ≡ Done → fileAnswer (fileTests l) ≡ fileAnswer (true-ranges (badRange l) (count l) ∷ [])
+  file-ranges done = in-front-done (runsTests l) (true-ranges (badRange l) (count l) ∷ []) done
+
+  pub file-true : fileAnswer (fileTests l) ≡ Done → badRange l ≡ count l
+  file-true done =
+      let last = done-front (runsTests l) (true-ranges (badRange l) (count l) ∷ []) done .1 in
+      eqb-true (badRange l) (count l) (done-first _ _ last .0)
+
+  pub ranges-done : badRange l ≡ count l → fileAnswer (true-ranges (badRange l) (count l) ∷ []) ≡ Done
+  ranges-done none = passed _ _ (eq-eqb (badRange l) (count l) none) ∙ none-left
+
+  pub range-at : (p : ℕ) → p ≡ badRange l → (p ≡ count l → ⊥) → fileAnswer (true-ranges (badRange l) (count l) ∷ []) ≡ Range p
+  range-at p found some = stopped _ _ (ne-eqb (badRange l) (count l) (λ e. some (found ∙ e))) ∙ ap Range (sym found)
+
+  -- In edition 2 the range of a block that was laid down is held to what was left of it.
+  pub range-tested : fileAnswer (runsTests l) ≡ Done → edition l ≡ 2 → (i : ℕ) → i < count l → (output : List ℕ) → length output ≡ 1024
+      → isRange (rangeOr l i) (Bodies.blockLeaves (entryOr l i) (bodyOf l i) output) ≡ hasTrueRange l i
+  unfolding hasTrueRange
+  range-tested done second i h output e =
+      let right = contents-right done in
+      let there = ap (λ t. pick t (blockIn l i) output) (runs-good done i h) in
+      ap₂ isRange (range-read l right i h)
+      (ap (λ e. Bodies.blockLeaves e (bodyOf l i) output) (entry-read l right i h) ∙ block-left l right i h output e ∙ there)
+      ∙ sym (ap (λ t. pick t (isRange (rangeOf l i) (blockIn l i)) true) (eq-eqb (edition l) 2 second))
+
+  -- A block of another edition than 2 has no range to test,
+  no-ranges : (edition l ≡ 2 → ⊥) → badRange l ≡ count l
+  unfolding badRange hasTrueRange
+  no-ranges other =
+      sym (first-only (count l) (count l) (hasTrueRange l) (omega arith) (λ i _. simp (ne-eqb (edition l) 2 other)) (λ h. absurd (omega arith)))
+
+  -- where the contents are right, so that the edition is the one that was read.
+  pub other-ranges : (editionOr l ≡ 2 → ⊥) → fileAnswer (contentsTests l (length l)) ≡ Done → badRange l ≡ count l
+  other-ranges other done = no-ranges (λ e. other (edition-read l done ∙ e))
