@@ -12,8 +12,9 @@ range-of-requires c κs = search needs
 
 returns : tie.Need-returns
 returns c =
-    let range = c .before .before .before .args .range in
-    ap₂ (λ low high. both (eqb (range .smallest) low) (eqb (range .largest) high)) (c .range-of .ensures .0) (c .range-of .ensures .1)
+    let call = c .before .before .before .before in
+    let range = call .before .before .args .range in
+    ap₂ (λ low high. both (eqb (range .smallest) low) (eqb (range .largest) high)) (call .range-of .ensures .0) (call .range-of .ensures .1)
 
 pub is-range-spec : {M : Type 1} → statement M
 is-range-spec = tie.close (tie.spec range-of-requires returns)
