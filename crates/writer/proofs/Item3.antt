@@ -1,14 +1,14 @@
--- Document 02, Item 3, of the call: each number exactly when the document gives it, a refused call leaves the output as it was, and a call that
+-- Document 02, Items 3 and 9, of the call: each number exactly when the document gives it, a refused call leaves the output as it was, and a call that
 -- is done leaves the file at the front and the bytes behind it. The file is one that the reader accepts, and its rows are the numbers.
 -- Assumes nothing.
-use mathlib.Core.List.{List, []}
+use mathlib.Core.List.{List, [], _∷_, _++_}
 use mathlib.Core.Logic.{_↔_}
 use mathlib.Core.Path.{_≡_, refl, sym, ap, _∙_, subst}
 use Prim.Native.Nat.{ℕ, _+_, _*_, _%_, _≤_, _<_}
 use native.Mathlib.Decide.{decLe, ℕ-discrete}
 use native.Mathlib.Omega.{arith}
 use borrow.Author.Tests.{ne-eqb}
-use lib.ListN.{length, take, drop}
+use lib.ListN.{length, getD, take, drop}
 use Rattle.places.specs.Numbers.{minus, Elements}
 use Rattle.places.specs.Parts.{cut, joined}
 use Rattle.places.specs.Places.{place, lane, row, order}
@@ -22,27 +22,30 @@ use Rattle.contents.specs.declared.Entry.{Entry}
 use Rattle.contents.specs.declared.FileAnswer.{FileAnswer}
 use Rattle.contents.specs.declared.FileAnswer.the-variants.{Done, Block, Room}
 use Rattle.contents.specs.Answers.{fileAnswer, numberOf, isDone, left}
-use Rattle.contents.specs.Bytes.{headBytes, entryBytes}
-use Rattle.contents.specs.Contents.{entryOf}
+use Rattle.contents.specs.Bytes.{headBytes, firstBytes, rangeBytes, entryBytes}
+use Rattle.contents.specs.Contents.{entryOf, rangeOf}
 use Rattle.contents.specs.First.{firstBad, firstFrom}
 use Rattle.contents.proofs.Answers.{left-refused, says-answer}
 use Rattle.bodies.specs.Bodies.{blockOf, wordsFrom}
+use Rattle.bodies.specs.Ranges.{lowestOf, trueRange}
 use Rattle.candidates.specs.Candidates.{plainAt, frameAt, stepsAt, shorter, chosen, bodyFor, baseOf}
-use Rattle.candidates.specs.Widths.{bits, widthOf, lowestOf}
+use Rattle.candidates.specs.Widths.{bits, widthOf}
 use Rattle.packing.specs.Packed.{packOf}
 use Rattle.deltas.specs.Deltas.{before, deltaOf, frameOf, forPackOf}
 use Rattle.runs.specs.Highest.{highestOf}
+use Rattle.runs.proofs.Highs.{highest-bound}
+use Rattle.bodies.proofs.Lows.{lowest-bound, lowest-stands}
 use Rattle.candidates.specs.Restored.{candidate}
 use Rattle.candidates.proofs.Choice.{chosen-shortest}
 use Rattle.candidates.proofs.Least.{no-narrower}
+use Rattle.candidates.proofs.Widths.{highest-stands}
 use Rattle.files.specs.Files.{rowsOf, fileTests}
-use Rattle.files.proofs.Rows.{noBlocks, oneOfSevens}
 use Rattle.writer.specs.declared.Written.the-variants.{Length, Refused}
 use Rattle.writer.specs.Plain.{Blocks, WriteReason, no-blocks, short-output, room-there}
 use Rattle.writer.specs.Writer.{blockCount, blockAt, entriesFor, bodiesFor, fileOf, writeTests, writtenOf, fileLeaves, answerOf, lengthOf}
 use Rattle.writer.proofs.Calls.{not-whole, over-many, blocks-short, blocks-room}
 use Rattle.writer.proofs.Laying.{file-short}
-use Rattle.writer.proofs.ReadBack.{entry-read, file-accepted, rows-read}
+use Rattle.writer.proofs.ReadBack.{entry-read, range-read, file-accepted, rows-read}
 
 -- Whole blocks by their remainder and their count.
 module _ (values : List ℕ) where
@@ -138,8 +141,8 @@ pub write-same : (values output output′ : List ℕ) → fileAnswer (writeTests
     → take (length (fileOf values)) (fileLeaves values output) ≡ take (length (fileOf values)) (fileLeaves values output′)
 write-same values output output′ done done′ = write-front values output done ∙ sym (write-front values output′ done′)
 
--- A file has at most 4 + 8208·N bytes.
-pub write-short : (values : List ℕ) → length (fileOf values) ≤ 4 + 8208 * blockCount values
+-- A file has at most 4 + 8224·N bytes.
+pub write-short : (values : List ℕ) → length (fileOf values) ≤ 4 + 8224 * blockCount values
 write-short values = file-short values
 
 -- Of each block of a file, for 1,024·n numbers:
@@ -149,6 +152,28 @@ module _ (values : List ℕ) (b : Blocks values) (fits : Elements t64 values) (i
 
   long : length (blockAt values i) ≡ 1024
   long = length-cut 1024 values i (omega (arith, b .whole))
+
+  -- its entry says its smallest and its largest number,
+  pub block-range : rangeOf (fileOf values) i ≡ trueRange (blockAt values i)
+  block-range = range-read values (b .n) (b .whole) (b .few) fits i h
+
+  -- which are so: every number of the block is between them,
+  pub block-between : (k : ℕ) → k < 1024
+      → (rangeOf (fileOf values) i .smallest ≤ getD (blockAt values i) k 0) × (getD (blockAt values i) k 0 ≤ rangeOf (fileOf values) i .largest)
+  block-between k l =
+      subst (λ r. (r .smallest ≤ getD (blockAt values i) k 0) × (getD (blockAt values i) k 0 ≤ r .largest)) (sym block-range)
+      (lowest-bound (blockAt values i) k (omega (arith, long)), highest-bound (blockAt values i) k (omega (arith, long)))
+
+  -- and both are numbers of it;
+  pub block-smallest : (k : ℕ) × (k < length (blockAt values i)) × (getD (blockAt values i) k 0 ≡ rangeOf (fileOf values) i .smallest)
+  block-smallest =
+      subst (λ r. (k : ℕ) × (k < length (blockAt values i)) × (getD (blockAt values i) k 0 ≡ r .smallest)) (sym block-range)
+      (lowest-stands (blockAt values i) (omega (arith, long)) (cut-elements t64 1024 values i fits))
+
+  pub block-largest : (k : ℕ) × (k < length (blockAt values i)) × (getD (blockAt values i) k 0 ≡ rangeOf (fileOf values) i .largest)
+  block-largest =
+      subst (λ r. (k : ℕ) × (k < length (blockAt values i)) × (getD (blockAt values i) k 0 ≡ r .largest)) (sym block-range)
+      (highest-stands (blockAt values i) (omega (arith, long)))
 
   -- no entry and body of its kind, with its reference or base, that give the block have a smaller width,
   pub block-least : (e : Entry) (body : List ℕ) → e .kind ≡ entryOf (fileOf values) i .kind → e .reference ≡ entryOf (fileOf values) i .reference
@@ -165,11 +190,23 @@ module _ (values : List ℕ) (b : Blocks values) (fits : Elements t64 values) (i
       × (entryOf (fileOf values) i .length ≡ candidate kind (blockAt values i) .entry .length → entryOf (fileOf values) i .kind ≤ kind)
   block-shortest kind k = rw entry-is (chosen-shortest (blockAt values i) kind k)
 
--- The two worked files of Item 1 are what the writer gives for no numbers and for 1,024 sevens.
+-- The two worked files of Item 1, in edition 2. No blocks: 02 00 00 00.
+abbrev pub noBlocks : List ℕ
+noBlocks = 2 ∷ 0 ∷ 0 ∷ 0 ∷ []
+
+-- Eight bytes of 7 are 07 and seven zeros.
+abbrev pub seven : List ℕ
+seven = 7 ∷ 0 ∷ 0 ∷ 0 ∷ 0 ∷ 0 ∷ 0 ∷ 0 ∷ []
+
+-- One block of sevens, kind 1, width 0: 02 00 01 00, 01 00 00 00 00 00 00 00, and then 7 as the reference, the smallest and the largest.
+abbrev pub oneOfSevens : List ℕ
+oneOfSevens = (2 ∷ 0 ∷ 1 ∷ 0 ∷ 1 ∷ 0 ∷ 0 ∷ 0 ∷ 0 ∷ 0 ∷ 0 ∷ 0 ∷ []) ++ (seven ++ (seven ++ seven))
+
+-- They are what the writer gives for no numbers and for 1,024 sevens.
 pub writes-none : fileOf [] ≡ noBlocks
 unfolding fileOf entriesFor bodiesFor headBytes bytesOf joined
 writes-none = refl
 
 pub writes-sevens : fileOf (tab 1024 (λ _. 7)) ≡ oneOfSevens
-unfolding fileOf entriesFor bodiesFor headBytes entryBytes bytesOf allBytes joined cut tab tabFrom chosen bodyFor shorter plainAt frameAt stepsAt baseOf widthOf bits lowestOf highestOf firstBad firstFrom packOf forPackOf frameOf deltaOf before minus place lane row order
+unfolding fileOf entriesFor bodiesFor headBytes firstBytes rangeBytes entryBytes bytesOf allBytes joined cut tab tabFrom chosen bodyFor shorter plainAt frameAt stepsAt baseOf widthOf bits lowestOf highestOf firstBad firstFrom packOf forPackOf frameOf deltaOf before minus place lane row order
 writes-sevens = refl

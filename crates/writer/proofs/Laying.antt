@@ -14,8 +14,11 @@ use Rattle.places.specs.Tab.{over}
 use Rattle.places.proofs.Overs.{length-over, over-append, over-apart, over-nothing, over-tail}
 use Rattle.places.proofs.Parts.{length-joined, length-cut}
 use Rattle.contents.specs.Bytes.{headBytes, entryBytes}
-use Rattle.contents.specs.Contents.{contentsSize}
+use Rattle.contents.specs.Contents.{entrySize, contentsSize}
 use Rattle.contents.proofs.Bytes.{length-head, length-entry}
+use Rattle.contents.specs.declared.Range.{Range}
+use Rattle.runs.specs.Highest.{highestOf}
+use Rattle.bodies.specs.Ranges.{lowestOf, trueRange}
 use Rattle.candidates.specs.declared.Laid.the-variants.{As}
 use Rattle.candidates.specs.Calls.{entryFor, laidOf, layLeaves}
 use Rattle.candidates.specs.Candidates.{chosen, bodyFor}
@@ -23,14 +26,18 @@ use Rattle.candidates.proofs.Calls.{entry-there, laid-there}
 use Rattle.candidates.proofs.Choice.{body-sized, chosen-short}
 use Rattle.writer.specs.Writer.{blockCount, blockAt, entriesFor, bodiesFor, fileOf}
 
+-- The entry that is written for a block: the chosen candidate's, with the block's own smallest and largest number.
+abbrev pub writtenEntry : (block : List ℕ) → List ℕ
+writtenEntry block = entryBytes (chosen block .entry) (trueRange block)
+
 module _ (values : List ℕ) where
   -- The bytes of the first i entries,
-  pub length-entries : (i : ℕ) → length (entriesFor values i) ≡ i * 16
+  pub length-entries : (i : ℕ) → length (entriesFor values i) ≡ i * 32
   unfolding entriesFor
-  length-entries i = length-joined 16 i _ (λ b _. length-entry (chosen (blockAt values b) .entry))
+  length-entries i = length-joined 32 i _ (λ b _. length-entry (chosen (blockAt values b) .entry) (trueRange (blockAt values b)))
 
   -- one entry more,
-  pub entries-next : (i : ℕ) → entriesFor values (suc i) ≡ entriesFor values i ++ entryBytes (chosen (blockAt values i) .entry)
+  pub entries-next : (i : ℕ) → entriesFor values (suc i) ≡ entriesFor values i ++ writtenEntry (blockAt values i)
   unfolding entriesFor joined
   entries-next i = refl
 
@@ -74,64 +81,69 @@ module _ (values : List ℕ) where
   abbrev pub fronts : (n i : ℕ) → List ℕ
   fronts n i = headBytes n ++ entriesFor values i
 
-  pub length-fronts : (n i : ℕ) → length (fronts n i) ≡ contentsSize i
+  pub length-fronts : (n i : ℕ) → length (fronts n i) ≡ contentsSize 2 i
+  unfolding contentsSize entrySize
   length-fronts n i = length-append (headBytes n) (entriesFor values i) ∙ ap₂ _+_ (length-head n) (length-entries i)
 
   -- The file has this length.
-  pub length-file : length (fileOf values) ≡ contentsSize (blockCount values) + length (bodiesFor values (blockCount values))
+  pub length-file : length (fileOf values) ≡ contentsSize 2 (blockCount values) + length (bodiesFor values (blockCount values))
   unfolding fileOf
   length-file =
       let n : ℕ = blockCount values in
       length-append (fronts n n) (bodiesFor values n) ∙ ap (λ k. k + length (bodiesFor values n)) (length-fronts n n)
 
-  -- At most 4 + 8208·N bytes.
-  pub file-short : length (fileOf values) ≤ 4 + 8208 * blockCount values
+  -- At most 4 + 8224·N bytes.
+  pub file-short : length (fileOf values) ≤ 4 + 8224 * blockCount values
+  unfolding contentsSize entrySize
   file-short = omega (arith, length-file, bodies-short (blockCount values))
 
   -- After i of n blocks the output holds this.
   abbrev pub laidTo : (n i : ℕ) (old : List ℕ) → List ℕ
-  laidTo n i old = over (contentsSize n) (bodiesFor values i) (over 4 (entriesFor values i) old)
+  laidTo n i old = over (contentsSize 2 n) (bodiesFor values i) (over 4 (entriesFor values i) old)
 
   -- Before the first block it holds what it held.
   pub laid-none : (n : ℕ) (old : List ℕ) → old ≡ laidTo n 0 old
   laid-none n old =
       sym
-      (ap₂ (λ x y. over (contentsSize n) x (over 4 y old)) bodies-none entries-none
-      ∙ over-nothing (contentsSize n) (over 4 [] old)
+      (ap₂ (λ x y. over (contentsSize 2 n) x (over 4 y old)) bodies-none entries-none
+      ∙ over-nothing (contentsSize 2 n) (over 4 [] old)
       ∙ over-nothing 4 old)
 
-  module _ (n : ℕ) (old : List ℕ) (room : contentsSize n + length (bodiesFor values n) ≤ length old) where
+  module _ (n : ℕ) (old : List ℕ) (room : contentsSize 2 n + length (bodiesFor values n) ≤ length old) where
     -- A body and an entry more make the next one.
-    pub laid-next : (i at : ℕ) → i < n → at ≡ contentsSize n + length (bodiesFor values i)
-        → over (contentsSize i) (entryBytes (chosen (blockAt values i) .entry)) (over at (bodyFor (blockAt values i)) (laidTo n i old))
+    pub laid-next : (i at : ℕ) → i < n → at ≡ contentsSize 2 n + length (bodiesFor values i)
+        → over (contentsSize 2 i) (writtenEntry (blockAt values i)) (over at (bodyFor (blockAt values i)) (laidTo n i old))
         ≡ laidTo n (suc i) old
+    unfolding contentsSize entrySize
     laid-next i at h e =
-        let entry : List ℕ = entryBytes (chosen (blockAt values i) .entry) in
+        let entry : List ℕ = writtenEntry (blockAt values i) in
         let body : List ℕ = bodyFor (blockAt values i) in
         let c : List ℕ = entriesFor values i in
-        let el : length entry ≡ 16 = length-entry (chosen (blockAt values i) .entry) in
-        let cl : length c ≡ i * 16 = length-entries i in
+        let el : length entry ≡ 32 = length-entry (chosen (blockAt values i) .entry) (trueRange (blockAt values i)) in
+        let cl : length c ≡ i * 32 = length-entries i in
         let f : List ℕ = over 4 c old in
         let fl : length f ≡ length old = length-over 4 c old (omega arith) in
         let within : length (bodiesFor values (suc i)) ≤ length (bodiesFor values n) = bodies-within (suc i) n h in
         let more : length (bodiesFor values (suc i)) ≡ length (bodiesFor values i) + length body =
         ap length (bodies-next i) ∙ length-append (bodiesFor values i) body in
-        let entries : over (contentsSize i) entry f ≡ over 4 (entriesFor values (suc i)) old =
+        let entries : over (contentsSize 2 i) entry f ≡ over 4 (entriesFor values (suc i)) old =
         ap (λ k. over (4 + k) entry f) (sym cl) ∙ over-append 4 c entry old (omega arith) ∙ ap (λ x. over 4 x old) (sym (entries-next i)) in
-        ap (λ k. over (contentsSize i) entry (over k body (laidTo n i old))) e
-        ∙ ap (over (contentsSize i) entry) (over-append (contentsSize n) (bodiesFor values i) body f (omega arith) ∙ ap (λ x. over (contentsSize n) x f) (sym (bodies-next i)))
-        ∙ over-apart (contentsSize i) (contentsSize n) entry (bodiesFor values (suc i)) f (omega arith) (omega arith)
-        ∙ ap (over (contentsSize n) (bodiesFor values (suc i))) entries
+        ap (λ k. over (contentsSize 2 i) entry (over k body (laidTo n i old))) e
+        ∙ ap (over (contentsSize 2 i) entry) (over-append (contentsSize 2 n) (bodiesFor values i) body f (omega arith) ∙ ap (λ x. over (contentsSize 2 n) x f) (sym (bodies-next i)))
+        ∙ over-apart (contentsSize 2 i) (contentsSize 2 n) entry (bodiesFor values (suc i)) f (omega arith) (omega arith)
+        ∙ ap (over (contentsSize 2 n) (bodiesFor values (suc i))) entries
 
     -- The output keeps its length.
     pub laid-length : (i : ℕ) → i ≤ n → length (laidTo n i old) ≡ length old
+    unfolding contentsSize entrySize
     laid-length i h =
         let within : length (bodiesFor values i) ≤ length (bodiesFor values n) = bodies-within i n h in
         let inner : length (over 4 (entriesFor values i) old) ≡ length old = length-over 4 (entriesFor values i) old (omega (arith, length-entries i)) in
-        length-over (contentsSize n) (bodiesFor values i) (over 4 (entriesFor values i) old) (omega arith) ∙ inner
+        length-over (contentsSize 2 n) (bodiesFor values i) (over 4 (entriesFor values i) old) (omega arith) ∙ inner
 
     -- After all blocks it holds the entries and the bodies.
     pub laid-all : laidTo n n old ≡ over 4 (entriesFor values n ++ bodiesFor values n) old
+    unfolding contentsSize entrySize
     laid-all =
         ap (λ k. over (4 + k) (bodiesFor values n) (over 4 (entriesFor values n) old)) (sym (length-entries n))
         ∙ over-append 4 (entriesFor values n) (bodiesFor values n) old (omega (arith, length-entries n))
@@ -140,7 +152,7 @@ module _ (values : List ℕ) where
   pub file-laid : (old : List ℕ) → length (fileOf values) ≤ length old
       → over 4 (entriesFor values (blockCount values) ++ bodiesFor values (blockCount values)) (over 0 (headBytes (blockCount values)) old)
       ≡ over 0 (fileOf values) old
-  unfolding fileOf
+  unfolding fileOf contentsSize entrySize
   file-laid old room =
       let n : ℕ = blockCount values in
       let x : List ℕ = entriesFor values n ++ bodiesFor values n in
@@ -156,6 +168,14 @@ module _ (values : List ℕ) where
     where
       part : i * 1024 + 1024 - i * 1024 ≡ 1024
       part = omega arith
+
+  -- whose smallest and largest number are its true range.
+  pub range-lent : (i : ℕ) (r : Range)
+      → (r .smallest ≡ lowestOf (take (i * 1024 + 1024 - i * 1024) (drop (i * 1024) values)))
+      × (r .largest ≡ highestOf (take (i * 1024 + 1024 - i * 1024) (drop (i * 1024) values)))
+      → r ≡ trueRange (blockAt values i)
+  range-lent i r e =
+      (λ j. record { smallest = e .0 j; largest = e .1 j }) ∙ ap (λ l. trueRange l) (block-lent i)
 
   -- Block i is laid down through the tail of the output,
   pub one-laid : (i at : ℕ) (old : List ℕ) → i < blockCount values → at + chosen (blockAt values i) .entry .length ≤ length old

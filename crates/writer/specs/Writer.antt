@@ -1,4 +1,4 @@
--- The column file that stands for a list of numbers, and what the writer answers and leaves (document 02, Item 3).
+-- The column file that stands for a list of numbers, and what the writer answers and leaves (document 02, Items 3 and 9).
 -- Assumes nothing.
 use mathlib.Core.List.{List, [], _∷_, _++_}
 use Prim.Native.Nat.{ℕ, _/_}
@@ -10,6 +10,7 @@ use Rattle.contents.specs.declared.FileAnswer.{FileAnswer}
 use Rattle.contents.specs.declared.FileAnswer.the-variants.{Done}
 use Rattle.contents.specs.Answers.{FileTest, whole-blocks, a-room, fileAnswer, isDone, left}
 use Rattle.contents.specs.Bytes.{headBytes, entryBytes}
+use Rattle.bodies.specs.Ranges.{trueRange}
 use Rattle.candidates.specs.Candidates.{chosen, bodyFor}
 use Rattle.writer.specs.declared.Written.{Written}
 use Rattle.writer.specs.declared.Written.the-variants.{Length, Refused}
@@ -22,15 +23,15 @@ blockCount values = length values / 1024
 abbrev pub blockAt : (values : List ℕ) (b : ℕ) → List ℕ
 blockAt values b = cut 1024 values b
 
--- The first n entries are those of the chosen candidate of each block,
+-- The first n entries are those of the chosen candidate of each block, each with the block's smallest and largest number,
 unfoldable pub entriesFor : (values : List ℕ) (n : ℕ) → List ℕ
-entriesFor values n = joined n (λ b. entryBytes (chosen (blockAt values b) .entry))
+entriesFor values n = joined n (λ b. entryBytes (chosen (blockAt values b) .entry) (trueRange (blockAt values b)))
 
 -- and these are the first n bodies.
 unfoldable pub bodiesFor : (values : List ℕ) (n : ℕ) → List ℕ
 bodiesFor values n = joined n (λ b. bodyFor (blockAt values b))
 
--- This is the file of the numbers, from its first byte to its last: edition 1 and the block count, the entries, the bodies.
+-- This is the file of the numbers, from its first byte to its last: edition 2 and the block count, the entries, the bodies.
 unfoldable pub fileOf : (values : List ℕ) → List ℕ
 fileOf values = headBytes (blockCount values) ++ entriesFor values (blockCount values) ++ bodiesFor values (blockCount values)
 

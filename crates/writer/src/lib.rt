@@ -1,6 +1,7 @@
-// The column file is written (document 02, Item 3): 1,024·N numbers become an edition 1 file. Each block is laid down as the crate
-// candidates chooses. The file's length is known before the first byte is written, so a refused call writes nothing. For that
-// each block is measured twice.
+// The column file is written (document 02, Items 3 and 9): 1,024·N numbers become an edition 2 file. Each block is laid down as
+// the crate candidates chooses, and its entry says its smallest and its largest number. The file's length is known before the
+// first byte is written, so a refused call writes nothing. For that each block is measured twice.
+use bodies::range_of;
 use candidates::entry_for;
 use candidates::lay_block;
 use contents::FileAnswer;
@@ -14,6 +15,7 @@ ghost use Rattle.places.specs.Tab.{over};
 ghost use Rattle.candidates.specs.Candidates.{chosen, bodyFor};
 ghost use Rattle.contents.specs.Bytes.{entryBytes};
 ghost use Rattle.contents.specs.Contents.{contentsSize};
+ghost use Rattle.bodies.specs.Ranges.{trueRange};
 ghost use Rattle.writer.specs.Writer.{answerOf, lengthOf, writtenOf, fileLeaves, fileOf, blockCount, blockAt, entriesFor, bodiesFor};
 
 // The length of the file that was written, or the refusal.
@@ -69,7 +71,7 @@ fn file_size(values: &[u64]) -> usize
     ensures { λ r. ⌜ r ≡ length (fileOf (now (values .entry))) ⌝ }
 {
     let n = values.len() / 1024;
-    let mut size = 4 + n * 16;
+    let mut size = 4 + n * 32;
     let mut i = 0;
     while i < n {
         let from = i * 1024;
@@ -98,7 +100,7 @@ fn lay_blocks(values: &[u64], output: &mut [u8])
     ensures { λ _. ⌜ now (output .exit) ≡ over 4 (entriesFor (now (values .entry)) (blockCount (now (values .entry))) ++ bodiesFor (now (values .entry)) (blockCount (now (values .entry)))) (now (output .entry)) ⌝ }
 {
     let n = values.len() / 1024;
-    let mut at = 4 + n * 16;
+    let mut at = 4 + n * 32;
     let mut i = 0;
     while i < n {
         at += lay_one(values, i, at, output);
@@ -106,17 +108,17 @@ fn lay_blocks(values: &[u64], output: &mut [u8])
     }
 }
 
-// Writes the body of block i from place `at` on, and its entry, and gives the length of the body. There is room, so the body is not
-// refused.
+// Writes the body of block i from place `at` on, and its entry with its range, and gives the length of the body. There is room,
+// so the body is not refused.
 fn lay_one(values: &[u64], i: usize, at: usize, output: &mut [u8]) -> usize
     requires { ⌜ i < blockCount (now values) ⌝ }
-    requires { ⌜ (contentsSize (i + 1) ≤ at) × (at + chosen (blockAt (now values) i) .entry .length ≤ length (now output)) ⌝ }
+    requires { ⌜ (contentsSize 2 (i + 1) ≤ at) × (at + chosen (blockAt (now values) i) .entry .length ≤ length (now output)) ⌝ }
     ensures { λ r. ⌜ r ≡ chosen (blockAt (now (values .entry)) i) .entry .length ⌝ }
-    ensures { λ _. ⌜ now (output .exit) ≡ over (contentsSize i) (entryBytes (chosen (blockAt (now (values .entry)) i) .entry)) (over at (bodyFor (blockAt (now (values .entry)) i)) (now (output .entry))) ⌝ }
+    ensures { λ _. ⌜ now (output .exit) ≡ over (contentsSize 2 i) (entryBytes (chosen (blockAt (now (values .entry)) i) .entry) (trueRange (blockAt (now (values .entry)) i))) (over at (bodyFor (blockAt (now (values .entry)) i)) (now (output .entry))) ⌝ }
 {
     let from = i * 1024;
     let to = from + 1024;
     let e = lay_block(&values[from..to], &mut output[at..]).entry();
-    put_entry(e, 4 + i * 16, output);
+    put_entry(e, range_of(&values[from..to]), 4 + i * 32, output);
     e.length as usize
 }

@@ -7,7 +7,7 @@ use native.Mathlib.Omega.{arith}
 use denote.Ref.{now}
 use lib.ListN.{length}
 use borrow.Author.Needs.{needs}
-use Rattle.contents.specs.Contents.{contentsSize}
+use Rattle.contents.specs.Contents.{entrySize, contentsSize}
 use Rattle.candidates.proofs.Choice.{chosen-short}
 use Rattle.writer.specs.Writer.{blockCount, blockAt, bodiesFor}
 use Rattle.writer.proofs.Laying.{bodies-none, bodies-longer, bodies-short, length-file, entry-lent}
@@ -15,18 +15,21 @@ use Rattle.writer.proofs.file_size.Statement.{statement}
 use Rattle.writer.proofs.file_size.Tie as tie
 
 abbrev Inv-loop : tie.InvT-loop
-Inv-loop values n size₀ i₀ size i = (i ≤ n) × (n ≡ blockCount values) × (size ≡ contentsSize n + length (bodiesFor values i))
+Inv-loop values n size₀ i₀ size i = (i ≤ n) × (n ≡ blockCount values) × (size ≡ contentsSize 2 n + length (bodiesFor values i))
 
 abbrev μ-loop : tie.MeasureT-loop
 μ-loop values n size₀ i₀ size i = n - i
 
 mul-size : tie.Need-mul-size Inv-loop μ-loop
+unfolding contentsSize entrySize
 mul-size c = omega arith
 
 add-size : tie.Need-add-size Inv-loop μ-loop
+unfolding contentsSize entrySize
 add-size c = omega arith
 
 loop-holds : tie.Need-loop-holds Inv-loop μ-loop
+unfolding contentsSize entrySize
 loop-holds c = (omega arith, refl, omega (arith, ap length (bodies-none (now (c .before .args .values)))))
 
 mul-from : tie.Need-mul-from Inv-loop μ-loop
@@ -54,6 +57,7 @@ cast-size : tie.Need-cast-size Inv-loop μ-loop
 cast-size c = search needs
 
 add-size-2 : tie.Need-add-size-2 Inv-loop μ-loop
+unfolding contentsSize entrySize
 add-size-2 c =
     let in-loop = c .before .before .before in
     let values = now (in-loop .before .before .before .args .values) in
@@ -67,6 +71,7 @@ loop-less : tie.Need-loop-less Inv-loop μ-loop
 loop-less c = omega arith
 
 loop-again : tie.Need-loop-again Inv-loop μ-loop
+unfolding contentsSize entrySize
 loop-again c =
     let in-loop = c .before .before .before in
     let values = now (in-loop .before .before .before .args .values) in
@@ -78,6 +83,7 @@ loop-again c =
     )
 
 returns : tie.Need-returns Inv-loop μ-loop
+unfolding contentsSize entrySize
 returns c =
     let values = now (c .before .before .before .args .values) in
     let all : c .before .loop .i ≡ blockCount values = omega arith in

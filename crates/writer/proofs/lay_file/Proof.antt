@@ -6,6 +6,7 @@ use native.Mathlib.Omega.{arith}
 use denote.Ref.{now}
 use borrow.Author.Needs.{needs}
 use Rattle.places.specs.Tab.{over}
+use Rattle.contents.specs.Contents.{entrySize, contentsSize}
 use Rattle.contents.proofs.Bytes.{head-fits}
 use Rattle.writer.specs.Writer.{blockCount, entriesFor, bodiesFor}
 use Rattle.writer.proofs.Laying.{length-file, file-laid}
@@ -25,6 +26,7 @@ same-length : tie.Need-same-length
 same-length c = search needs
 
 returns : tie.Need-returns
+unfolding contentsSize entrySize
 returns c =
     let out = c .before .before in
     let head = out .before .before .before .before in
