@@ -8,18 +8,21 @@ use Prim.Native.Nat.{ℕ, _≤_, _<_}
 use native.Mathlib.Omega.{arith}
 use lib.ListN.{length}
 use borrow.Author.Tests.{eq-eqb, ne-eqb, eqb-true}
+use Rattle.places.specs.Numbers.{Elements}
 use Rattle.places.specs.Pick.{pick}
 use Rattle.contents.specs.declared.FileAnswer.the-variants.{Done, Range}
 use Rattle.contents.specs.Answers.{good-runs, true-ranges, fileAnswer, numberOf}
-use Rattle.contents.specs.Contents.{edition, count, editionOr, entryOr, rangeOf, rangeOr, contentsTests}
+use Rattle.contents.specs.Contents.{edition, count, editionOr, entryOf, entryOr, rangeOf, rangeOr, contentsTests}
 use Rattle.contents.proofs.Accepted.{done-first, done-front}
 use Rattle.contents.proofs.Answers.{passed, stopped, none-left, in-front-done, in-front-refused}
 use Rattle.contents.proofs.First.{first-only, first-before}
 use Rattle.bodies.specs.Bodies as Bodies
 use Rattle.bodies.specs.Ranges.{isRange}
+use Rattle.bodies.proofs.Blocks.{a-block, take-elements, drop-elements}
+use Rattle.bodies.proofs.Ranges.{Spans, range-spans}
 use Rattle.files.specs.Files.{bodyOf, blockIn, hasTrueRange, badRuns, badRange, fileTests}
 use Rattle.files.specs.InnerRuns.{runsTests}
-use Rattle.files.proofs.Files.{goodIn, edition-read, entry-read, range-read, block-left}
+use Rattle.files.proofs.Files.{goodIn, edition-read, entry-read, range-read, body-laid, block-left}
 
 module _ (l : List ℕ) where
   -- contents that are right are right in front of whatever is tested behind them
@@ -76,3 +79,18 @@ module _ (l : List ℕ) where
   -- where the contents are right, so that the edition is the one that was read.
   pub other-ranges : (editionOr l ≡ 2 → ⊥) → fileAnswer (contentsTests l (length l)) ≡ Done → badRange l ≡ count l
   other-ranges other done = no-ranges (λ e. other (edition-read l done ∙ e))
+
+  -- In an accepted file every block has its true range.
+  pub ranges-true : fileAnswer (fileTests l) ≡ Done → (i : ℕ) → i < count l → hasTrueRange l i ≡ true
+  unfolding badRange
+  ranges-true done i h = first-before (count l) (hasTrueRange l) i (omega (arith, file-true done))
+
+  -- So in an accepted edition 2 file of bytes every value of a block is between the smallest and the largest that its entry says, and both stand
+  -- in the block.
+  pub file-spans : Elements 8 l → fileAnswer (fileTests l) ≡ Done → edition l ≡ 2 → (i : ℕ) → i < count l → Spans (rangeOf l i) (blockIn l i)
+  unfolding hasTrueRange blockIn bodyOf
+  file-spans bytes done second i h =
+      let laid = body-laid l (contents-right (file-runs done)) i h in
+      let block = a-block (entryOf l i) (bodyOf l i) laid (take-elements 8 _ _ (drop-elements 8 _ l bytes)) in
+      let tested = sym (ap (λ t. pick t (isRange (rangeOf l i) (blockIn l i)) true) (eq-eqb (edition l) 2 second)) ∙ ranges-true done i h in
+      range-spans (rangeOf l i) (blockIn l i) (omega (arith, block .0)) (block .1) .0 tested

@@ -1,0 +1,84 @@
+-- A body of bytes whose entry is as laid out stands for a block: 1,024 numbers of 64 bits.
+-- Assumes nothing.
+use mathlib.Core.Bool.{true}
+use mathlib.Core.List.{List, [], _∷_}
+use mathlib.Core.Path.{_≡_, sym, subst}
+use Prim.Native.Nat.{ℕ, zero, suc, _^_, _≤_, _<_}
+use native.Mathlib.Decide.{decLe}
+use native.Mathlib.Omega.{arith}
+use lib.ListN.{length, getD, take, drop}
+use lib.Pow.{pow-pos}
+use Rattle.places.specs.Numbers.{Elements}
+use Rattle.places.specs.Sizes.{t64, lanes}
+use Rattle.places.specs.Tab.{tab}
+use Rattle.places.proofs.Digits.{elements-of}
+use Rattle.places.proofs.Tabs.{length-tab, getD-tab}
+use Rattle.packing.proofs.Rounds.{length-unpack}
+use Rattle.deltas.specs.Deltas.{unforPackOf, undeltaPackOf}
+use Rattle.deltas.proofs.Lanes.{plus-lt, summed-lt, elements-unpack}
+use Rattle.runs.specs.Runs.{decodeOf}
+use Rattle.little.specs.Little.{little, numbersOf}
+use Rattle.contents.specs.declared.Entry.{Entry}
+use Rattle.contents.specs.Contents.{isLaidOut}
+use Rattle.contents.proofs.Laid.{laid-packed, laid-kind}
+use Rattle.bodies.specs.Bodies.{wordsFrom, packedFrom, runIndices, valueCount, blockOf}
+use Rattle.bodies.proofs.Bodies.{block-packed, block-frame, block-differences, block-runs}
+
+-- A part of a list of numbers of t bits is one.
+pub drop-elements : (t n : ℕ) (l : List ℕ) → Elements t l → Elements t (drop n l)
+drop-elements t zero l fits = fits
+drop-elements t (suc n) [] fits = fits
+drop-elements t (suc n) (x ∷ l) fits = drop-elements t n l (λ i. fits (suc i))
+
+pub take-elements : (t n : ℕ) (l : List ℕ) → Elements t l → Elements t (take n l)
+take-elements t zero l fits i = pow-pos t
+take-elements t (suc n) [] fits i = fits i
+take-elements t (suc n) (x ∷ l) fits zero = fits zero
+take-elements t (suc n) (x ∷ l) fits (suc i) = take-elements t n l (λ i. fits (suc i)) i
+
+-- Eight bytes hold a number of 64 bits.
+word-lt : (l : List ℕ) → Elements 8 l → (at : ℕ) → little l at 8 < 2 ^ 64
+unfolding little
+word-lt l fits at =
+    omega
+    (arith, fits at, fits (suc at), fits (suc (suc at)), fits (suc (suc (suc at))), fits (suc (suc (suc (suc at)))), fits (suc (suc (suc (suc (suc at))))), fits (suc (suc (suc (suc (suc (suc at)))))), fits (suc (suc (suc (suc (suc (suc (suc at))))))))
+
+tab-elements : (n : ℕ) (f : ℕ → ℕ) → ((p : ℕ) → f p < 2 ^ 64) → Elements t64 (tab n f)
+tab-elements n f small = elements-of t64 n (tab n f) (length-tab n f) (λ i h. subst (λ k. k < 2 ^ 64) (sym (getD-tab n f i 0 h)) (small i))
+
+-- A block is 1,024 numbers of 64 bits.
+abbrev pub Block : List ℕ → Type 0
+Block b = (length b ≡ 1024) × Elements t64 b
+
+a-tab : (f : ℕ → ℕ) → ((p : ℕ) → f p < 2 ^ 64) → Block (tab 1024 f)
+a-tab f small = (length-tab 1024 f, tab-elements 1024 f small)
+
+a-frame : (w : ℕ) (packed : List ℕ) (reference : ℕ) → Block (unforPackOf t64 w packed reference)
+unfolding unforPackOf
+a-frame w packed reference = a-tab _ (λ p. plus-lt t64 _ reference)
+
+a-sum : (w : ℕ) (packed base : List ℕ) → Block (undeltaPackOf t64 w packed base)
+unfolding undeltaPackOf
+a-sum w packed base = a-tab _ (λ p. summed-lt t64 _ _ _)
+
+a-decoded : (n : ℕ) (bytes indices : List ℕ) → Elements 8 bytes → Block (decodeOf (numbersOf 8 bytes n) indices)
+unfolding decodeOf numbersOf
+a-decoded n bytes indices fits = a-tab _ (λ p. tab-elements n _ (λ i. word-lt bytes fits _) (getD indices p 0))
+
+pub a-block : (e : Entry) (body : List ℕ) → isLaidOut e ≡ true → Elements 8 body → Block (blockOf e body)
+a-block e body laid fits =
+    elim (decLe (e .kind) 0) [
+      | yes k ↦
+          let zero-kind : e .kind ≡ 0 = omega arith in
+          subst Block (sym (block-packed e body zero-kind))
+          (length-unpack t64 (e .width) (packedFrom body 0 (e .width)), elements-unpack t64 (e .width) (laid-packed e laid zero-kind .0) (packedFrom body 0 (e .width)))
+      | no k ↦ elim (decLe (e .kind) 1) [
+        | yes m ↦ subst Block (sym (block-frame e body (omega arith))) (a-frame (e .width) (packedFrom body 0 (e .width)) (e .reference))
+        | no m ↦ elim (decLe (e .kind) 2) [
+          | yes n ↦ subst Block (sym (block-differences e body (omega arith))) (a-sum (e .width) (packedFrom body 128 (e .width)) (wordsFrom body 0 (lanes t64)))
+          | no n ↦
+              subst Block (sym (block-runs e body (omega (arith, laid-kind e laid))))
+              (a-decoded (valueCount e) (drop 2048 body) (runIndices body) (drop-elements 8 2048 body fits))
+        ]
+      ]
+    ]
