@@ -35,10 +35,10 @@ use Rattle.deltas.specs.Deltas.{before, deltaOf, frameOf, forPackOf}
 use Rattle.runs.specs.Highest.{highestOf}
 use Rattle.runs.proofs.Highs.{highest-bound}
 use Rattle.bodies.proofs.Lows.{lowest-bound, lowest-stands}
+use Rattle.bodies.proofs.Ranges.{highest-stands}
 use Rattle.candidates.specs.Restored.{candidate}
 use Rattle.candidates.proofs.Choice.{chosen-shortest}
 use Rattle.candidates.proofs.Least.{no-narrower}
-use Rattle.candidates.proofs.Widths.{highest-stands}
 use Rattle.files.specs.Files.{rowsOf, fileTests}
 use Rattle.writer.specs.declared.Written.the-variants.{Length, Refused}
 use Rattle.writer.specs.Plain.{Blocks, WriteReason, no-blocks, short-output, room-there}
