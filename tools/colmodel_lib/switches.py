@@ -14,8 +14,8 @@ to be:
 import os
 import sys
 
-EDITIONS = (1,)
-EDITION_WRITTEN = 1
+EDITIONS = (1, 2)
+EDITION_WRITTEN = 2
 RUNS_IN_EDITION_2 = True
 
 AS_OF = {"7": ((1,), 1, True), "9": ((1, 2), 2, True), "11": ((1, 2), 2, False)}

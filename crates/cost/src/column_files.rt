@@ -1,6 +1,7 @@
 // The calls on a column file, on a file of zeros but for its contents. Call 16 checks the contents of a file of 256 empty
 // frames, or of none where start is 0; call 17 takes out the block of a file of one block, of the kind that start says. A block of
-// kind 3 has no width, and the request's says how many run values there are: eight times as many.
+// kind 3 has no width, and the request's says how many run values there are: eight times as many. The file is of edition 1, and of
+// edition 2 where the request has a step: its values are zeros, and so are the smallest and the largest of them.
 use crate::Outcome;
 use crate::Request;
 use crate::UNKNOWN;
@@ -9,7 +10,7 @@ ghost use Prim.Native.Nat.{_<_};
 ghost use Rattle.io.specs.Counts.{Counts};
 
 // The longest file is that of 1,024 run values.
-type File = [u8; 10260];
+type File = [u8; 10276];
 
 type Block = [u64; 1024];
 
@@ -45,13 +46,13 @@ fn once(op: u8, file: &[u8], out: &mut Block) -> usize {
 
 // The file's bytes. The bodies are zeros, and so are the run indices, which are then in range.
 fn file_of(request: Request) -> File {
-    let mut file: File = [0; 10260];
-    file[0] = 1;
+    let mut file: File = [0; 10276];
+    file[0] = if is_second(request) { 2 } else { 1 };
     if request.op == 16 {
         file[3] = request.start;
         let mut i = 0;
         while i < 256 {
-            file[4 + 16 * i] = 1;
+            file[entry_at(request, i)] = 1;
             i += 1;
         }
         return file;
@@ -72,11 +73,34 @@ fn size(request: Request, file: &[u8]) -> usize
     ensures { λ r. ⌜ Counts r (now (file .entry)) ⌝ }
 {
     let n = if request.op == 16 {
-        4 + 4096 * byte_to_usize(request.start)
+        all_entries(request)
     } else {
-        20 + body(request)
+        entry_at(request, 1) + body(request)
     };
     if n <= file.len() { n } else { 0 }
+}
+
+fn is_second(request: Request) -> bool {
+    request.step != 0
+}
+
+// Where entry i begins.
+fn entry_at(request: Request, i: usize) -> usize
+    requires { ⌜ i < 256 ⌝ }
+    ensures { λ r. ⌜ r < 8196 ⌝ }
+{
+    if is_second(request) {
+        return 4 + 32 * i;
+    }
+    4 + 16 * i
+}
+
+// The bytes of the contents: of 256 entries, or of none where start is 0.
+fn all_entries(request: Request) -> usize {
+    if is_second(request) {
+        return 4 + 8192 * byte_to_usize(request.start);
+    }
+    4 + 4096 * byte_to_usize(request.start)
 }
 
 // The length of the block's body.

@@ -8,13 +8,13 @@ ghost use Rattle.io.specs.Counts.{Counts};
 
 type Block = [u64; 1024];
 
-type Output = [u8; 8212];
+type Output = [u8; 8228];
 
 // Makes the call turn after turn, the first one before the loop as in the modules of the sizes.
 pub fn run(request: Request) -> Outcome {
     let width = request.width;
     let values = block_of(request.start);
-    let mut output: Output = [0; 8212];
+    let mut output: Output = [0; 8228];
     let mut answers = once(&values, width, &mut output);
     let mut turns = request.turns;
     while turns > 0 {
@@ -47,7 +47,7 @@ fn room(rows: usize, output: &[u8]) -> usize
     if 256 <= rows {
         return 0;
     }
-    let n = 20 + 128 * rows;
+    let n = 36 + 128 * rows;
     if n <= output.len() { n } else { 0 }
 }
 

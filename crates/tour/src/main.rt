@@ -171,11 +171,11 @@ fn differences(dates: &[u16; 1024]) -> [u16; 1024] {
 fn show_file() {
     let mut values = sevens();
     values[3] = 9;
-    let mut file = [77u8; 276];
+    let mut file = [77u8; 292];
     let written = writer::write(&values, &mut file);
     say(b"\nA column of 1024 path numbers, sevens but for a 9 in row 3, is written as a\n");
     say(b"file. This is its length in bytes, and then the number of the check:\n");
-    line(b"  ", written.length() as u64, b" bytes of ", 276);
+    line(b"  ", written.length() as u64, b" bytes of ", 292);
     show_file_answer(files::check(&file));
     say(b"A stub asks the file for row 3, and then for row 1024, which there is not:\n");
     show_row(&file, 3);
@@ -188,7 +188,7 @@ fn sevens() -> [u64; 1024] {
     [7; 1024]
 }
 
-fn show_row(file: &[u8; 276], row: usize) {
+fn show_row(file: &[u8; 292], row: usize) {
     let found = files::row_at(file, row);
     match found {
         Row::Value(x, _) => line(b"  ", x, b" in row ", row as u64),
