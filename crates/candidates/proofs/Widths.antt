@@ -1,20 +1,18 @@
 -- The laws of the least width, of the lowest number and of the highest.
 -- Assumes nothing.
-use mathlib.Core.List.{List, [], _∷_}
+use mathlib.Core.List.{List}
 use mathlib.Core.Logic.{_↔_}
 use mathlib.Core.Path.{_≡_, refl, sym, ap, _∙_, subst}
-use Prim.Native.Nat.{ℕ, zero, suc, _+_, _-_, _%_, _^_, _≤_, _<_, min, zero-le, suc-le-suc}
+use Prim.Native.Nat.{ℕ, suc, _+_, _-_, _%_, _^_, _≤_, _<_, zero-le, suc-le-suc}
 use native.Mathlib.Decide.{decLe}
-use native.Mathlib.Nat.{le-of-suc-le-suc, not-suc-le-zero, lt-of-lt-of-le, lt-of-le-of-lt, pow-suc, mod-eq-of-lt, le-refl}
-use native.Mathlib.Numerals.{add-one}
+use native.Mathlib.Nat.{not-suc-le-zero, lt-of-lt-of-le, lt-of-le-of-lt, pow-suc, mod-eq-of-lt, le-refl}
 use native.Mathlib.Omega.{arith}
 use borrow.Author.Tests.{leb-true, leb-false, le-leb, lt-leb}
 use lib.Bits.{bitOr, or-lt, or-add-and, and-le-l, and-le-r}
 use lib.Count.{leadingZeros, leading-length}
 use lib.Dec.{leb}
-use lib.ListN.{length, getD, drop, drop-of-length-le}
+use lib.ListN.{length, getD}
 use lib.Pow.{pow-mono, pow-pos}
-use lib.Seq.{drop-cons}
 use Rattle.places.specs.Numbers.{Elements, plus, minus}
 use Rattle.places.specs.Sizes.{t64}
 use Rattle.places.specs.Tab.{tab}

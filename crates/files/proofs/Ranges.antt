@@ -3,16 +3,16 @@
 -- Assumes nothing.
 use mathlib.Core.Bool.{true}
 use mathlib.Core.List.{List, [], _∷_}
-use mathlib.Core.Path.{_≡_, refl, sym, ap, ap₂, _∙_}
-use Prim.Native.Nat.{ℕ, _≤_, _<_}
+use mathlib.Core.Path.{_≡_, sym, ap, ap₂, _∙_}
+use Prim.Native.Nat.{ℕ, _<_}
 use native.Mathlib.Omega.{arith}
-use lib.ListN.{length}
+use lib.ListN.{length, drop}
 use borrow.Author.Tests.{eq-eqb, ne-eqb, eqb-true}
 use Rattle.places.specs.Numbers.{Elements}
 use Rattle.places.specs.Pick.{pick}
 use Rattle.contents.specs.declared.FileAnswer.the-variants.{Done, Range}
 use Rattle.contents.specs.Answers.{good-runs, true-ranges, fileAnswer, numberOf}
-use Rattle.contents.specs.Contents.{edition, count, editionOr, entryOf, entryOr, rangeOf, rangeOr, contentsTests}
+use Rattle.contents.specs.Contents.{edition, count, editionOr, entryOf, entryOr, rangeOf, rangeOr, bodyStart, contentsTests}
 use Rattle.contents.proofs.Accepted.{done-first, done-front}
 use Rattle.contents.proofs.Answers.{passed, stopped, none-left, in-front-done, in-front-refused}
 use Rattle.contents.proofs.First.{first-only, first-before}
@@ -85,12 +85,17 @@ module _ (l : List ℕ) where
   unfolding badRange
   ranges-true done i h = first-before (count l) (hasTrueRange l) i (omega (arith, file-true done))
 
+  -- A body of a file of bytes is of bytes.
+  body-bytes : Elements 8 l → (i : ℕ) → Elements 8 (bodyOf l i)
+  unfolding bodyOf
+  body-bytes bytes i = take-elements 8 (entryOf l i .length) (drop (bodyStart l i) l) (drop-elements 8 (bodyStart l i) l bytes)
+
   -- So in an accepted edition 2 file of bytes every value of a block is between the smallest and the largest that its entry says, and both stand
   -- in the block.
   pub file-spans : Elements 8 l → fileAnswer (fileTests l) ≡ Done → edition l ≡ 2 → (i : ℕ) → i < count l → Spans (rangeOf l i) (blockIn l i)
-  unfolding hasTrueRange blockIn bodyOf
+  unfolding hasTrueRange blockIn
   file-spans bytes done second i h =
       let laid = body-laid l (contents-right (file-runs done)) i h in
-      let block = a-block (entryOf l i) (bodyOf l i) laid (take-elements 8 _ _ (drop-elements 8 _ l bytes)) in
+      let block = a-block (entryOf l i) (bodyOf l i) laid (body-bytes bytes i) in
       let tested = sym (ap (λ t. pick t (isRange (rangeOf l i) (blockIn l i)) true) (eq-eqb (edition l) 2 second)) ∙ ranges-true done i h in
       range-spans (rangeOf l i) (blockIn l i) (omega (arith, block .0)) (block .1) .0 tested

@@ -5,7 +5,7 @@ use mathlib.Core.Bool.{Bool, true, false}
 use mathlib.Core.List.{List, [], _∷_, _++_}
 use mathlib.Core.Logic.{_↔_, _⊎_, inl, inr, ⊎-elim, _≢_}
 use mathlib.Core.Path.{_≡_, refl, sym, ap, ap₂, subst, _∙_}
-use Prim.Native.Nat.{ℕ, _*_, _-_, _/_, _≤_, _<_}
+use Prim.Native.Nat.{ℕ, _*_, _≤_, _<_}
 use native.Mathlib.Decide.{decLe, decLt, ℕ-discrete}
 use native.Mathlib.Omega.{arith}
 use lib.Dec.{eqb}
@@ -27,7 +27,7 @@ use Rattle.contents.specs.First.{firstBad}
 use Rattle.contents.proofs.Accepted.{accepts}
 use Rattle.contents.proofs.Answers.{passed, stopped, none-left, in-front-done, in-front-refused, number-done}
 use Rattle.contents.proofs.Checks as Checks
-use Rattle.contents.proofs.First.{first-only, first-le, first-before, first-at}
+use Rattle.contents.proofs.First.{first-only, first-before, first-at}
 use Rattle.contents.proofs.Laid.{laid-plain}
 use Rattle.bodies.specs.Bodies.{hasGoodRuns, valueCount}
 use Rattle.bodies.specs.Ranges.{isRange, lowestOf}
