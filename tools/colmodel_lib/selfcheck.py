@@ -230,14 +230,13 @@ def read_at(question):
     return entry.kind, entry.width if entry.kind != RUNS else entry.length
 
 
-def what_is_reached(name, questions, by_rows=False):
+def what_is_reached(name, asked, by_rows=False):
     """Every number that a call can give, and no other; every kind is read and written; every count that a kind can
     give is given; outputs change and stay. Blocks come out at the widths at the edges; with by_rows, kinds 0 and 1 may
     have a row lookup there in the place of a block out, and from Item 9 on every kind may."""
     reached = {op: set() for op in GIVEN}
     kinds, written, counts = set(), set(), {kind: set() for kind in COUNTS}
-    for question in questions:
-        outcome = answered(question)
+    for question, outcome in asked:
         reached[question.op].add(outcome.number)
         if question.op == BLOCK_OUT and not outcome.number:
             kinds.add(read_at(question))
@@ -361,10 +360,10 @@ def streams(questions):
         yield from unless(said == ["bad stream at 0"], f"the replay of a trickle that cannot be says {said}")
 
 
-def size_of_sample(questions):
+def size_of_sample(asked):
     """The sample of the calls that there are by then is below a megabyte."""
     later = {SEARCH, REWRITE} if 2 not in EDITIONS else {REWRITE} if RUNS_IN_EDITION_2 else set()
-    size = sum(len(record(question, answered(question))) for question in questions if question.op not in later)
+    size = sum(len(record(question, outcome)) for question, outcome in asked if question.op not in later)
     yield from unless(size < 1_000_000, f"the sample has {size} bytes, and is to be below a megabyte")
 
 
@@ -383,11 +382,14 @@ def mixed_has_all():
         yield from unless(found == set(ops), f"mixed cases of {sorted(ops)} have the calls {sorted(found)}")
 
 
+def with_outcomes(questions):
+    return [(question, answered(question)) for question in questions]
+
+
 def failures():
     """All that is not so."""
-    swept = list(sweep.sweep(1))
-    sample = list(sweep.sample())
-    some = some_mixed()
+    swept, sample, some = map(with_outcomes, (sweep.sweep(1), sweep.sample(), some_mixed()))
+    questions, kept = ([question for question, _ in asked] for asked in (swept, sample))
     yield from worked_files()
     yield from packed_cases()
     yield from frame_cases()
@@ -396,17 +398,15 @@ def failures():
     yield from round_trips()
     yield from counts_of_words()
     yield from counts_by_kind()
-    yield from order_of_refusals(set(swept))
+    yield from order_of_refusals(set(questions))
     yield from what_is_reached("sweep", swept)
     yield from what_is_reached("sample", sample, by_rows=True)
     yield from what_is_reached("mixed", some)
-    yield from check_editions.failures(swept, sample)
-    yield from check_writes.failures(swept, sample)
-    yield from check_drawers.failures(swept, sample, some)
-    yield from check_trickles.failures(swept, sample, some)
-    yield from check_searches.failures(swept, sample, some)
-    yield from check_rewrites.failures(swept, sample, some)
+    yield from check_editions.failures(kept)
+    yield from check_writes.failures(questions, kept)
+    for part in (check_drawers, check_trickles, check_searches, check_rewrites):
+        yield from part.failures(swept, sample, some)
     yield from check_writes.reads_back(check_writes.all_written(mixed_writes.writes(1, 100)))
     yield from mixed_has_all()
-    yield from streams(sample)
+    yield from streams(kept)
     yield from size_of_sample(sample)
