@@ -95,7 +95,7 @@ def one_file_for_all_ways():
     dice = build.Dice("ways")
     for name, values in sweep_rewrites.chosen_shapes(dice):
         for edition in (1, 2):
-            ways = encodings.ways_of(values, has_runs(edition))
+            ways = encodings.blocks_of_ways(values, has_runs(edition))
             old = [column_file([block], edition) for block in ways.values()]
             new = {rewrite.rewrite(data, 2**23)[1] for data in old}
             yield from unless(len(new) == 1, f"edition {edition}, {name}: there are {len(new)} new files")

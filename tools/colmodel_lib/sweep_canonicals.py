@@ -49,7 +49,7 @@ def canonical_ways(dice):
     around the block."""
     around = frame(0, b"", 9), packed(0, b"")
     for i, (name, values) in enumerate(shapes_to_hold(dice)):
-        for way, block in encodings.ways_of(values, has_runs(2)).items():
+        for way, block in encodings.blocks_of_ways(values, has_runs(2)).items():
             yield ask_canonical(f"{name} as {way}", column_file([block], 2))
             if i % 5 == 0:
                 data = column_file([around[0], around[1], block, around[0]], 2)
@@ -234,7 +234,7 @@ def small_ways(dice):
         ("lanes rising by 1", shapes.along_rows(lambda row, lane: 900 * lane + row)),
     )
     for name, values in held:
-        for way, block in encodings.ways_of(values, False).items():
+        for way, block in encodings.blocks_of_ways(values, False).items():
             if len(block.body) <= 400:
                 yield ask_canonical(f"{name} as {way}", column_file([frame(0, b"", 9), block], 2))
 
