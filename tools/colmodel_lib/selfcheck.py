@@ -3,14 +3,15 @@
 Each check is a function that gives the things that are not so, in words. Numbers here are worked out by hand from
 documents 01 and 02. What is said of edition 2 stands in check_editions.py, what is said of writes in check_writes.py,
 and what is said of drawers, trickles, searches, rewrites and canonical checks in check_drawers.py, check_trickles.py,
-check_searches.py, check_rewrites.py and check_canonicals.py.
+check_searches.py, check_rewrites.py and check_canonicals.py. What is said of the program that compares two files stands
+in check_changes.py.
 """
 import io
 import struct
 
-from . import build, check_canonicals, check_drawers, check_editions, check_rewrites, check_searches, check_trickles
-from . import check_writes, files, layout, mixed, mixed_canonicals, mixed_drawers, mixed_rewrites, mixed_searches
-from . import mixed_trickles, mixed_writes, sweep, sweep_reads
+from . import build, check_canonicals, check_changes, check_drawers, check_editions, check_rewrites, check_searches
+from . import check_trickles, check_writes, files, layout, mixed, mixed_canonicals, mixed_drawers, mixed_rewrites
+from . import mixed_searches, mixed_trickles, mixed_writes, sweep, sweep_reads
 from .ask import ask_row
 from .build import Dice, column_file
 from .check_writes import unless
@@ -410,6 +411,7 @@ def failures():
     for part in (check_drawers, check_trickles, check_searches, check_rewrites, check_canonicals):
         yield from part.failures(swept, sample, some)
     yield from check_writes.reads_back(check_writes.all_written(mixed_writes.writes(1, 100)))
+    yield from check_changes.failures()
     yield from mixed_has_all()
     yield from streams(kept)
     yield from size_of_sample(sample)
