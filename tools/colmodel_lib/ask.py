@@ -1,7 +1,7 @@
 """A question for each call, made from what the call takes."""
 from . import build, drawers, rewrite, search, trickle, writer
-from .stream import BLOCK_OUT, CHECK, REWRITE, ROW_LOOKUP, SEARCH, STARTED, TRICKLE, TRICKLE_FROM, UNPACK_BLOCKS, WRITE
-from .stream import Question
+from .stream import BLOCK_OUT, CANONICAL, CHECK, REWRITE, ROW_LOOKUP, SEARCH, STARTED, TRICKLE, TRICKLE_FROM
+from .stream import UNPACK_BLOCKS, WRITE, Question
 
 
 def ask_check(name, data):
@@ -56,6 +56,10 @@ def ask_rewritten(dice, name, data, more=0):
     Where the file is refused, the output is as long as the file."""
     _, new = rewrite.rewrite(data, 2**23)
     return ask_rewrite(dice, name, data, max(len(data if new is None else new) + more, 0))
+
+
+def ask_canonical(name, data):
+    return Question(CANONICAL, name, data)
 
 
 def ask_drawer(dice, op, name, t, width, blocks, given, room, reference=0):

@@ -274,7 +274,7 @@ def what_is_refused(asked):
 
 def wrong_ones_told(sample, asked):
     """The sample and the sweep find out every wrong call, and not the right one."""
-    few = [question for question in sample if question.op in DRAWERS]
+    few = [question for question, _ in sample]
     refused = [question for question, outcome in asked if outcome.number]
     done = [question for question, outcome in asked if not outcome.number and question.index < 4]
     limit = [question for question, _ in asked if question.index > 254]
@@ -293,8 +293,8 @@ def wrong_ones_told(sample, asked):
     yield from unless(len(right) == 8, "the sample finds out the right call")
 
 
-def with_outcomes(questions):
-    return [(question, answered(question)) for question in questions if question.op in DRAWERS]
+def of_drawers(asked):
+    return [(question, outcome) for question, outcome in asked if question.op in DRAWERS]
 
 
 def failures(swept, sample, mixed):
@@ -304,8 +304,8 @@ def failures(swept, sample, mixed):
     yield from by_bits()
     yield from as_layout_has_it()
     yield from round_trips()
-    yield from order_of_reasons(swept)
-    asked, few, some = map(with_outcomes, (swept, sample, mixed))
+    asked, few, some = map(of_drawers, (swept, sample, mixed))
+    yield from order_of_reasons(question for question, _ in asked)
     for name, these in (("sweep", asked), ("sample", few), ("mixed", some)):
         yield from outputs_change(name, these)
         yield from numbers_reached(name, these, name != "mixed")
@@ -313,4 +313,4 @@ def failures(swept, sample, mixed):
     counts, widths = {8: (0, 1, 2), 16: (0, 1, 2)}, {8: (0, 3, 8), 16: (0, 3, 16)}
     yield from what_is_done("sample", few, lambda t: counts.get(t, (0,)), lambda t: widths.get(t, (3,)))
     yield from what_is_refused(asked)
-    yield from wrong_ones_told(sample, asked)
+    yield from wrong_ones_told(few, asked)

@@ -1,7 +1,7 @@
 """The part of the selfcheck that holds the reader's model, and its cases, to what Items 9 and 11 say of edition 2.
 
 First come files that are worked out by hand; they are looked at by the rules that read both editions, so wherever the
-switches stand. Then, from Item 9 on, the cases have to find out the readers of wrong_editions.py.
+switches stand. Then, from Item 9 on, the sample has to find out the readers of wrong_editions.py.
 """
 from . import build, files, wrong_editions
 from .build import column_file
@@ -79,18 +79,17 @@ def worked_lengths():
     yield from unless(got == wanted, f"the sevens of edition 2: the reader's check gives {got}")
 
 
-def wrong_ones_told(swept, sample):
-    """The sweep and the sample find out every wrong reader, and not the right one."""
-    for where, questions in (("sweep", swept), ("sample", sample)):
-        for name in wrong_editions.not_told(questions, wrong_editions.WRONG_PARTS, wrong_editions.WRONG_CALLS):
-            yield f"the {where} does not find out a wrong reader: {name}"
+def wrong_ones_told(sample):
+    """The sample finds out every wrong reader, and not the right one."""
+    for name in wrong_editions.not_told(sample, wrong_editions.WRONG_PARTS, wrong_editions.WRONG_CALLS):
+        yield f"the sample does not find out a wrong reader: {name}"
     right = list(wrong_editions.not_told(sample, {"no part": {}}, {"no call": answered}))
     yield from unless(right == ["no part", "no call"], "the sample finds out the right reader")
 
 
-def failures(swept, sample):
+def failures(sample):
     yield from worked_files()
     yield from worked_answers()
     yield from worked_lengths()
     if 2 in EDITIONS:
-        yield from wrong_ones_told(swept, sample)
+        yield from wrong_ones_told(sample)

@@ -11,7 +11,6 @@ from .files import BOTH, DIFFERENCES, FRAME, PACKED, RUNS
 from .stream import REWRITE, Question, answered
 from .sweep_reads import NO_BLOCKS, NO_BLOCKS_2, SEVENS, SEVENS_2, has_runs
 from .switches import RUNS_IN_EDITION_2
-from .wrong_rewrites import of_rewrites
 
 NUMBERS = {0, 8, 9, 10, 11, 13, 14, 15}  # that the call can give
 
@@ -96,7 +95,7 @@ def one_file_for_all_ways():
     dice = build.Dice("ways")
     for name, values in sweep_rewrites.chosen_shapes(dice):
         for edition in (1, 2):
-            ways = encodings.ways_of(values, has_runs(edition))
+            ways = encodings.blocks_of_ways(values, has_runs(edition))
             old = [column_file([block], edition) for block in ways.values()]
             new = {rewrite.rewrite(data, 2**23)[1] for data in old}
             yield from unless(len(new) == 1, f"edition {edition}, {name}: there are {len(new)} new files")
@@ -157,24 +156,27 @@ def what_is_asked(asked):
     yield from unless(sizes == {-1, 0, 1}, "not every new file can be longer, shorter and as long")
 
 
-def wrong_ones_told(swept, sample):
-    """The sweep and the sample find out every wrong rewrite, and not the right one."""
-    for where, questions in (("sweep", swept), ("sample", sample)):
-        for name in wrong_rewrites.not_told(questions, wrong_rewrites.WRONG_FILES, wrong_rewrites.WRONG_CALLS):
-            yield f"the {where} does not find out a wrong rewrite: {name}"
+def wrong_ones_told(sample):
+    """The sample finds out every wrong rewrite, and not the right one."""
+    for name in wrong_rewrites.not_told(sample, wrong_rewrites.WRONG_FILES, wrong_rewrites.WRONG_CALLS):
+        yield f"the sample does not find out a wrong rewrite: {name}"
     right = list(wrong_rewrites.not_told(sample, {"no file": rewrite.rewritten}, {"no call": answered}))
     yield from unless(right == ["no file", "no call"], "the sample finds out the right rewrite")
+
+
+def of_rewrites(asked):
+    return [(question, outcome) for question, outcome in asked if question.op == REWRITE]
 
 
 def failures(swept, sample, mixed):
     yield from worked_rewrites()
     yield from one_file_for_all_ways()
-    yield from order_of_refusals(swept)
-    for name, questions in (("sweep", swept), ("sample", sample), ("mixed", mixed)):
-        asked = [(question, answered(question)) for question in of_rewrites(questions)]
+    swept, sample, mixed = map(of_rewrites, (swept, sample, mixed))
+    yield from order_of_refusals(question for question, _ in swept)
+    for name, asked in (("sweep", swept), ("sample", sample), ("mixed", mixed)):
         yield from as_a_stream_has_it(name, asked)
         yield from numbers_reached(name, asked)
         yield from reads_back(name, asked)
         if name == "sweep":
             yield from what_is_asked(asked)
-    yield from wrong_ones_told(swept, sample)
+    yield from wrong_ones_told(sample)

@@ -10,7 +10,6 @@ from .check_writes import unless
 from .files import BOTH, TOP, words_of
 from .stream import SEARCH, Question, answered
 from .sweep_reads import ENTRY_WRONG, RANGE_WRONG, RUNS_WRONG, WAYS, has_runs
-from .wrong_searches import of_searches
 
 NUMBERS = {0, 8, 9, 10, 11, 13, 14, 15}  # that the call can give
 
@@ -242,26 +241,29 @@ def kinds_opened(name, asked):
     yield from unless(found == wanted, f"{name}: no rows come from edition and kind {sorted(wanted - found)}")
 
 
-def wrong_ones_told(swept, sample):
-    """The sweep and the sample find out every wrong search, and not the right one."""
-    for where, questions in (("sweep", swept), ("sample", sample)):
-        for name in wrong_searches.not_told(questions, wrong_searches.SORTS, wrong_searches.WRONG_CALLS):
-            yield f"the {where} does not find out a wrong search: {name}"
+def wrong_ones_told(sample):
+    """The sample finds out every wrong search, and not the right one."""
+    for name in wrong_searches.not_told(sample, wrong_searches.SORTS, wrong_searches.WRONG_CALLS):
+        yield f"the sample does not find out a wrong search: {name}"
     right = list(wrong_searches.not_told(sample, ((search, {"no part": {}}),), {"no call": answered}))
     yield from unless(right == ["no part", "no call"], "the sample finds out the right search")
+
+
+def of_searches(asked):
+    return [(question, outcome) for question, outcome in asked if question.op == SEARCH]
 
 
 def failures(swept, sample, mixed):
     yield from worked_searches()
     yield from worked_lies()
     yield from worked_files()
-    yield from order_of_refusals(swept)
-    for name, questions in (("sweep", swept), ("sample", sample), ("mixed", mixed)):
-        asked = [(question, answered(question)) for question in of_searches(questions)]
+    swept, sample, mixed = map(of_searches, (swept, sample, mixed))
+    yield from order_of_refusals(question for question, _ in swept)
+    for name, asked in (("sweep", swept), ("sample", sample), ("mixed", mixed)):
         yield from as_a_stream_has_it(name, asked)
         yield from numbers_reached(name, asked)
         yield from without_skipping(asked)
         if name == "sweep":
             yield from what_is_asked(asked)
             yield from kinds_opened(name, asked)
-    yield from wrong_ones_told(swept, sample)
+    yield from wrong_ones_told(sample)

@@ -7,8 +7,7 @@ from . import build, layout, sweep_trickles, trickle, wrong_trickles
 from .build import Dice
 from .check_writes import unless
 from .files import words_of
-from .stream import BY_HAND, STARTED, TRICKLE, TRICKLE_FROM, Question, answered, fed_in, trickle_fault
-from .wrong_trickles import of_trickles
+from .stream import BY_HAND, STARTED, TRICKLE, TRICKLE_FROM, TRICKLES, Question, answered, fed_in, trickle_fault
 
 NUMBERS = {TRICKLE: {0, 1, 2, 16}, TRICKLE_FROM: {0, 2, 16}}  # that each call can give
 MARKS = b"\xa5" * 8192
@@ -221,15 +220,20 @@ def states_reached(asked):
 
 
 def wrong_ones_told(swept, sample):
-    """The sweep finds out every wrong trickle, the sample those that it has cases for, and neither the right one."""
+    """The sample finds out the wrong trickles that it has cases for, the sweep the others, and neither the right one."""
     parts, calls = wrong_trickles.WRONG_PARTS, wrong_trickles.WRONG_CALLS
-    for name in wrong_trickles.not_told(swept, parts, calls):
-        yield f"the sweep does not find out a wrong trickle: {name}"
     found = set(wrong_trickles.not_told(sample, parts, calls))
     others = found ^ wrong_trickles.NOT_IN_SAMPLE
     yield from unless(not others, f"the sample finds out other wrong trickles than is said: {sorted(others)}")
-    right = list(wrong_trickles.not_told(swept, {"no part": {}}, {"no call": answered}))
-    yield from unless(right == ["no part", "no call"], "the sweep finds out the right trickle")
+    rest = {name: parts[name] for name in wrong_trickles.NOT_IN_SAMPLE}
+    for name in wrong_trickles.not_told(swept, rest, {}):
+        yield f"the sweep does not find out a wrong trickle: {name}"
+    right = list(wrong_trickles.not_told(sample, {"no part": {}}, {"no call": answered}))
+    yield from unless(right == ["no part", "no call"], "the sample finds out the right trickle")
+
+
+def of_trickles(asked):
+    return [(question, outcome) for question, outcome in asked if question.op in TRICKLES]
 
 
 def failures(swept, sample, mixed):
@@ -237,9 +241,9 @@ def failures(swept, sample, mixed):
     yield from worked_states()
     yield from cuts_make_no_difference()
     yield from asked_at_every_byte()
-    yield from order_of_reasons(swept)
-    for name, questions in (("sweep", swept), ("sample", sample), ("mixed", mixed)):
-        asked = [(question, answered(question)) for question in of_trickles(questions)]
+    swept, sample, mixed = map(of_trickles, (swept, sample, mixed))
+    yield from order_of_reasons(question for question, _ in swept)
+    for name, asked in (("sweep", swept), ("sample", sample), ("mixed", mixed)):
         yield from as_a_stream_has_it(name, asked)
         yield from numbers_reached(name, asked)
         if name == "sweep":

@@ -158,7 +158,7 @@ def restores(kind, width, values):
         block = build.frame(width, build.packed_bytes(width, [value - low for value in values]), low)
     else:
         block = build.packed(width, build.packed_bytes(width, values))
-    return files.block_values(*block) == list(values)
+    return files.values_in(kind, width, block.entry.reference, block.body) == list(values)
 
 
 def preferred(entry):

@@ -1,6 +1,8 @@
 """Blocks that hold given numbers, in any way that the reader takes: each kind, at the least width or a wider one, with
 any reference or base that fits. The writer would choose one of them, and the others restore the block as well.
 """
+from functools import partial
+
 from . import build, layout, writer
 from .files import DIFFERENCES, FRAME, PACKED, RUNS
 
@@ -42,7 +44,7 @@ def as_kind(kind, values):
     return BY_KIND[kind](values)
 
 
-# Every way, by name.
+# Every way, by name. Each comes as a function that makes the block, since packing takes a while.
 
 
 def other_reference(values):
@@ -52,54 +54,57 @@ def other_reference(values):
     return (min(values) - spare) % 2**layout.T if spare else None
 
 
-def other_base(values, lane):
-    """The base with one number less in a lane, which needs no more width where the differences have any; else None."""
+def lower_base(values, lane):
+    """The base with one number less in a lane."""
     base = list(writer.base_of(values))
     base[lane] = (base[lane] - 1) % 2**layout.T
-    return base if any(layout.delta(values, writer.base_of(values))) else None
+    return base
 
 
 def packed_ways(values):
     width = writer.least_width(values)
-    yield "kind 0", as_packed(values)
+    yield "kind 0", partial(as_packed, values)
     if width < layout.T:
-        yield "kind 0 one bit wider", as_packed(values, more=1)
-        yield "kind 0 at width 64", as_packed(values, more=layout.T - width)
+        yield "kind 0 one bit wider", partial(as_packed, values, more=1)
+        yield "kind 0 at width 64", partial(as_packed, values, more=layout.T - width)
 
 
 def frame_ways(values):
     smallest, largest = min(values), max(values)
-    width = writer.least_width([largest - smallest])
-    yield "kind 1", as_frame(values)
-    if width < layout.T:
-        yield "kind 1 one bit wider", as_frame(values, more=1)
+    yield "kind 1", partial(as_frame, values)
+    if writer.least_width([largest - smallest]) < layout.T:
+        yield "kind 1 one bit wider", partial(as_frame, values, more=1)
     references = {"from 0": 0, "from one less": (smallest - 1) % 2**layout.T, "from the largest": largest}
     references |= {"from afar at the same width": other_reference(values)}
     for name, reference in references.items():
         if reference not in (None, smallest):
-            yield f"kind 1 {name}", as_frame(values, reference)
+            yield f"kind 1 {name}", partial(as_frame, values, reference)
 
 
 def difference_ways(values):
+    """A base that is lower by one needs no more width where the differences have any."""
     width = writer.least_width(layout.delta(values, writer.base_of(values)))
-    yield "kind 2", as_differences(values)
+    yield "kind 2", partial(as_differences, values)
     if width < layout.T:
-        yield "kind 2 one bit wider", as_differences(values, more=1)
-    for lane in (0, layout.LANES - 1):
-        base = other_base(values, lane)
-        if base is not None:
-            yield f"kind 2 with another base in lane {lane}", as_differences(values, base)
+        yield "kind 2 one bit wider", partial(as_differences, values, more=1)
+    for lane in (0, layout.LANES - 1) if width else ():
+        yield f"kind 2 with another base in lane {lane}", partial(as_differences, values, lower_base(values, lane))
     if any(writer.base_of(values)):
-        yield "kind 2 from zeros", as_differences(values, [0] * layout.LANES)
+        yield "kind 2 from zeros", partial(as_differences, values, [0] * layout.LANES)
 
 
 def run_ways(values):
-    yield "kind 3", as_runs(values)
+    yield "kind 3", partial(as_runs, values)
     if len(set(values)) < 1020:
-        yield "kind 3 with unused values", as_runs(values, before=[0, 2**layout.T - 1], after=[5])
+        yield "kind 3 with unused values", partial(as_runs, values, before=[0, 2**layout.T - 1], after=[5])
 
 
 def ways_of(values, runs):
-    """Blocks that hold these numbers, by name; with run blocks among them where those are read."""
+    """The ways to hold these numbers; run blocks are among them where those are read."""
     found = {**dict(packed_ways(values)), **dict(frame_ways(values)), **dict(difference_ways(values))}
     return {**found, **dict(run_ways(values))} if runs else found
+
+
+def blocks_of_ways(values, runs):
+    """A block for each of these ways, by name."""
+    return {name: made() for name, made in ways_of(values, runs).items()}

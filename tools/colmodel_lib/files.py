@@ -209,32 +209,33 @@ def words_of(body):
     return struct.unpack(f"<{len(body) // 8}Q", body)
 
 
-@functools.lru_cache(maxsize=500)
 def values_in(kind, width, reference, body):
+    """The 1,024 values of a body, by its kind, width and reference."""
     if kind == RUNS:
         return layout.decode(words_of(body[INDICES.size :]), INDICES.unpack_from(body))
     if kind == DIFFERENCES:
         differences = layout.unpack(width, words_of(body[BASE_BYTES:]))
         return layout.undelta(differences, words_of(body[:BASE_BYTES]))
     digits = layout.unpack(width, words_of(body))
-    return [(reference + digit) % 2**layout.T for digit in digits]
+    return [(reference + digit) % 2**layout.T for digit in digits] if kind == FRAME else digits
+
+
+# The last ones are kept, as their bytes, which take less room, and with their smallest and largest.
+@functools.lru_cache(maxsize=3000)
+def kept_values(kind, width, reference, body):
+    values = values_in(kind, width, reference, body)
+    return struct.pack("<1024Q", *values), (min(values), max(values))
 
 
 def block_values(entry, body):
     """The 1,024 values of a block that passes the tests up to 13."""
-    return values_in(entry.kind, entry.width, entry.reference, body)
-
-
-@functools.lru_cache(maxsize=3000)
-def range_in(kind, width, reference, body):
-    values = values_in(kind, width, reference, body)
-    return min(values), max(values)
+    return list(words_of(kept_values(entry.kind, entry.width, entry.reference, body)[0]))
 
 
 def true_range(entry, body):
     """The smallest and the largest of a block's 1,024 values. Of a run block's values some may stand at no place; these
     do not count."""
-    return range_in(entry.kind, entry.width, entry.reference, body)
+    return kept_values(entry.kind, entry.width, entry.reference, body)[1]
 
 
 def values_of(data, block):

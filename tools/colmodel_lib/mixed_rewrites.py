@@ -11,7 +11,7 @@ from .sweep_reads import has_runs
 def some_way(dice, values, edition):
     """A block of these numbers in one of the ways to hold them."""
     ways = encodings.ways_of(values, has_runs(edition))
-    return ways[dice.pick(sorted(ways))]
+    return ways[dice.pick(sorted(ways))]()
 
 
 def held_file(dice):

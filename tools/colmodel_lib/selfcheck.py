@@ -2,32 +2,35 @@
 
 Each check is a function that gives the things that are not so, in words. Numbers here are worked out by hand from
 documents 01 and 02. What is said of edition 2 stands in check_editions.py, what is said of writes in check_writes.py,
-and what is said of drawers, trickles, searches and rewrites in check_drawers.py, check_trickles.py, check_searches.py
-and check_rewrites.py.
+and what is said of drawers, trickles, searches, rewrites and canonical checks in check_drawers.py, check_trickles.py,
+check_searches.py, check_rewrites.py and check_canonicals.py. What is said of the program that compares two files stands
+in check_changes.py.
 """
 import io
 import struct
 
-from . import build, check_drawers, check_editions, check_rewrites, check_searches, check_trickles, check_writes, files
-from . import layout, mixed, mixed_drawers, mixed_rewrites, mixed_searches, mixed_trickles, mixed_writes, sweep
-from . import sweep_reads
+from . import build, check_canonicals, check_changes, check_drawers, check_editions, check_rewrites, check_searches
+from . import check_trickles, check_writes, files, layout, mixed, mixed_canonicals, mixed_drawers, mixed_rewrites
+from . import mixed_searches, mixed_trickles, mixed_writes, sweep, sweep_reads
 from .ask import ask_row
 from .build import Dice, column_file
 from .check_writes import unless
 from .files import DIFFERENCES, FRAME, PACKED, RUNS
 from .sweep_reads import ENTRY_WRONG, RANGE_WRONG, RUNS_WRONG, SEVENS, SEVENS_2, WAYS
 from .switches import EDITION_WRITTEN, EDITIONS, RUNS_IN_EDITION_2
-from .stream import BLOCK_OUT, CALLS, CHECK, DRAWERS, FOR_PACK_BLOCKS, NO_COUNT, REWRITE, ROW_LOOKUP, SEARCH, TRICKLE
-from .stream import TRICKLE_FROM, TRICKLES, UNPACK_BLOCKS, WRITE, Outcome, Question, answered, cases, record, replay
+from .stream import BLOCK_OUT, CALLS, CANONICAL, CHECK, DRAWERS, FOR_PACK_BLOCKS, NO_COUNT, REWRITE, ROW_LOOKUP, SEARCH
+from .stream import TRICKLE, TRICKLE_FROM, TRICKLES, UNPACK_BLOCKS, WRITE, Outcome, Question, answered, cases, record
+from .stream import replay
 
 OF_EDITION_2 = {15} if 2 in EDITIONS else set()
-GIVEN = {  # The numbers that each call can give, from Items 1, 3, 7, 9 and 10.
+GIVEN = {  # The numbers that each call can give, from Items 1, 3, 7, 9, 10, 11 and 14.
     CHECK: {0, 8, 9, 10, 11, 13} | OF_EDITION_2,
     BLOCK_OUT: {0, 2, 8, 9, 10, 11, 12, 13} | OF_EDITION_2,
     ROW_LOOKUP: {0, 8, 9, 10, 11, 12, 13} | OF_EDITION_2,
     WRITE: {0, 2, 14},
     SEARCH: {0, 8, 9, 10, 11, 13, 14, 15},
     REWRITE: {0, 8, 9, 10, 11, 13, 14, 15},
+    CANONICAL: {0, 8, 9, 10, 11, 13, 15, 17},
     UNPACK_BLOCKS: {0, 1, 2, 3},
     FOR_PACK_BLOCKS: {0, 1, 2, 3},
     TRICKLE: {0, 1, 2, 16},
@@ -230,14 +233,13 @@ def read_at(question):
     return entry.kind, entry.width if entry.kind != RUNS else entry.length
 
 
-def what_is_reached(name, questions, by_rows=False):
+def what_is_reached(name, asked, by_rows=False):
     """Every number that a call can give, and no other; every kind is read and written; every count that a kind can
     give is given; outputs change and stay. Blocks come out at the widths at the edges; with by_rows, kinds 0 and 1 may
     have a row lookup there in the place of a block out, and from Item 9 on every kind may."""
     reached = {op: set() for op in GIVEN}
     kinds, written, counts = set(), set(), {kind: set() for kind in COUNTS}
-    for question in questions:
-        outcome = answered(question)
+    for question, outcome in asked:
         reached[question.op].add(outcome.number)
         if question.op == BLOCK_OUT and not outcome.number:
             kinds.add(read_at(question))
@@ -361,10 +363,11 @@ def streams(questions):
         yield from unless(said == ["bad stream at 0"], f"the replay of a trickle that cannot be says {said}")
 
 
-def size_of_sample(questions):
+def size_of_sample(asked):
     """The sample of the calls that there are by then is below a megabyte."""
-    later = {SEARCH, REWRITE} if 2 not in EDITIONS else {REWRITE} if RUNS_IN_EDITION_2 else set()
-    size = sum(len(record(question, answered(question))) for question in questions if question.op not in later)
+    later = {REWRITE, CANONICAL} if RUNS_IN_EDITION_2 else set()
+    later |= {SEARCH} if 2 not in EDITIONS else set()
+    size = sum(len(record(question, outcome)) for question, outcome in asked if question.op not in later)
     yield from unless(size < 1_000_000, f"the sample has {size} bytes, and is to be below a megabyte")
 
 
@@ -372,7 +375,7 @@ def some_mixed():
     """Random cases: readings and writes as the stream of mixed cases has them, and then some of every other sort."""
     readings = mixed.mixed(1, 1000, (*OF_READER, WRITE))
     others = [mixed_drawers.drawers_of(1, 200), mixed_trickles.trickles(1, 100), mixed_searches.searches(1, 300)]
-    others += [mixed_rewrites.rewrites(1, 200)]
+    others += [mixed_rewrites.rewrites(1, 200), mixed_canonicals.canonicals(1, 300)]
     return [*readings, *(question for sort in others for question in sort)]
 
 
@@ -383,11 +386,14 @@ def mixed_has_all():
         yield from unless(found == set(ops), f"mixed cases of {sorted(ops)} have the calls {sorted(found)}")
 
 
+def with_outcomes(questions):
+    return [(question, answered(question)) for question in questions]
+
+
 def failures():
     """All that is not so."""
-    swept = list(sweep.sweep(1))
-    sample = list(sweep.sample())
-    some = some_mixed()
+    swept, sample, some = map(with_outcomes, (sweep.sweep(1), sweep.sample(), some_mixed()))
+    questions, kept = ([question for question, _ in asked] for asked in (swept, sample))
     yield from worked_files()
     yield from packed_cases()
     yield from frame_cases()
@@ -396,17 +402,16 @@ def failures():
     yield from round_trips()
     yield from counts_of_words()
     yield from counts_by_kind()
-    yield from order_of_refusals(set(swept))
+    yield from order_of_refusals(set(questions))
     yield from what_is_reached("sweep", swept)
     yield from what_is_reached("sample", sample, by_rows=True)
     yield from what_is_reached("mixed", some)
-    yield from check_editions.failures(swept, sample)
-    yield from check_writes.failures(swept, sample)
-    yield from check_drawers.failures(swept, sample, some)
-    yield from check_trickles.failures(swept, sample, some)
-    yield from check_searches.failures(swept, sample, some)
-    yield from check_rewrites.failures(swept, sample, some)
+    yield from check_editions.failures(kept)
+    yield from check_writes.failures(questions, kept)
+    for part in (check_drawers, check_trickles, check_searches, check_rewrites, check_canonicals):
+        yield from part.failures(swept, sample, some)
     yield from check_writes.reads_back(check_writes.all_written(mixed_writes.writes(1, 100)))
+    yield from check_changes.failures()
     yield from mixed_has_all()
-    yield from streams(sample)
+    yield from streams(kept)
     yield from size_of_sample(sample)

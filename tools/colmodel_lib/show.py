@@ -1,12 +1,12 @@
 """Shows a column file to a person: its contents as far as they are there, and the answer with what is wrong.
 
 Of a write it shows the three candidates of each block, and the file that the model writes. Of a drawer it shows the
-blocks that the model gives, of a trickle what every chunk adds, of a search the blocks that it opens, and of a rewrite
-the old file, the candidates and the new file.
+blocks that the model gives, of a trickle what every chunk adds, of a search the blocks that it opens, of a rewrite the
+old file, the candidates and the new file, and of a canonical check the file and the candidates.
 """
-from . import drawers, files, rewrite, search, trickle, writer
-from .stream import BY_HAND, DRAWERS, FOR_PACK_BLOCKS, NO_COUNT, REWRITE, ROW_LOOKUP, SEARCH, TRICKLE, TRICKLE_FROM
-from .stream import TRICKLES, UNPACK_BLOCKS, WRITE, fed_in
+from . import canonical, drawers, files, rewrite, search, trickle, writer
+from .stream import BY_HAND, CANONICAL, DRAWERS, FOR_PACK_BLOCKS, NO_COUNT, REWRITE, ROW_LOOKUP, SEARCH, TRICKLE
+from .stream import TRICKLE_FROM, TRICKLES, UNPACK_BLOCKS, WRITE, fed_in
 
 
 def plural(n, word):
@@ -196,6 +196,15 @@ def rewrite_lines(question):
     yield answer_line(answer)
 
 
+def canonical_lines(question):
+    """What the model does with a canonical check: the file, and where it is readable what the writer has to choose
+    from."""
+    yield from contents_lines(question.a)
+    if not files.check(question.a, files.BOTH).number:
+        yield from candidate_lines(rewrite.all_values(question.a))
+    yield answer_line(canonical.check(question.a))
+
+
 def state_of(question):
     """The state that a trickle begins with, and where it comes from, in words."""
     answer, state = trickle.start(question.width)
@@ -240,6 +249,8 @@ def given_words(question):
         return f"{plural(len(question.a) // 8, 'number')}, output of {plural(len(question.c), 'byte')}"
     if question.op in TRICKLES:
         return trickle_words(question)
+    if question.op == CANONICAL:
+        return plural(len(question.a), "byte")
     if question.op == REWRITE:
         return f"{plural(len(question.a), 'byte')}, output of {plural(len(question.c), 'byte')}"
     if question.op == SEARCH:
@@ -272,6 +283,8 @@ def case_lines(i, question, expected, answered):
         yield from search_lines(question)
     elif question.op == REWRITE:
         yield from rewrite_lines(question)
+    elif question.op == CANONICAL:
+        yield from canonical_lines(question)
     elif question.op == WRITE:
         yield from write_lines(files.words_of(question.a), len(question.c))
     else:

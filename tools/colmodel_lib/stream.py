@@ -11,10 +11,10 @@ nor 1. No such case is written here, and one that is read makes a bad stream.
 import struct
 from typing import NamedTuple
 
-from . import drawers, files, rewrite, search, trickle, writer
+from . import canonical, drawers, files, rewrite, search, trickle, writer
 
 HEAD = struct.Struct("<BBHB3xQQQQ4I")
-CHECK, BLOCK_OUT, ROW_LOOKUP, WRITE, SEARCH, REWRITE = 16, 17, 18, 19, 20, 21
+CHECK, BLOCK_OUT, ROW_LOOKUP, WRITE, SEARCH, REWRITE, CANONICAL = 16, 17, 18, 19, 20, 21, 22
 UNPACK_BLOCKS, FOR_PACK_BLOCKS = DRAWERS = 24, 25
 TRICKLE, TRICKLE_FROM = TRICKLES = 26, 30
 ELEMENTS = {
@@ -24,6 +24,7 @@ ELEMENTS = {
     WRITE: (8, 1, 1),
     SEARCH: (1, 8, 8),
     REWRITE: (1, 1, 1),
+    CANONICAL: (1, 1, 8),
     TRICKLE: (1, 8, 8),
     TRICKLE_FROM: (1, 8, 8),
 }
@@ -95,6 +96,11 @@ def to_rewrite(q):
     return refused(answer, q) if answer.number else Outcome(0, 0, data + q.c[len(data) :], len(data))
 
 
+def to_canonical(q):
+    answer = canonical.check(q.a)
+    return refused(answer, q) if answer.number else Outcome(0, 0, q.c)
+
+
 def to_unpack_blocks(q):
     answer, values = drawers.unpack_blocks(q.t, q.width, q.index, q.a, len(q.c) * 8 // q.t)
     return refused(answer, q) if answer.number else Outcome(0, 0, values)
@@ -126,6 +132,7 @@ CALLS = {
     WRITE: to_write,
     SEARCH: to_search,
     REWRITE: to_rewrite,
+    CANONICAL: to_canonical,
     UNPACK_BLOCKS: to_unpack_blocks,
     FOR_PACK_BLOCKS: to_for_pack_blocks,
     TRICKLE: to_trickle,

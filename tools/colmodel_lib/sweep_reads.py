@@ -411,14 +411,17 @@ def off_by_one(block):
     return block.but(smallest=smallest - 1) if smallest else block.but(largest=largest + 1)
 
 
-def faulty_file(steps, way, lean=False):
-    """A file that fails exactly these steps and is good otherwise. A lean one has no run block but the bad one."""
+def faulty_file(steps, way, lean=False, first=None):
+    """A file that fails exactly these steps and is good otherwise. A lean one has no run block but the bad one. The first
+    block, which is good in every way, may be another one."""
     dice, how = Dice("steps", way), WAYS[way]
     blocks = [any_block(dice, PACKED, 1), any_runs(dice, 1), any_block(dice, FRAME, 1), any_block(dice, PACKED, 0)]
     blocks += [any_runs(dice, 2), any_block(dice, DIFFERENCES, 0)]
     bad_runs = with_index(blocks[how["block"]], 9, 77)
     if lean or not has_runs(how["edition"]):
         blocks = [frame(0, b"", 5) if block.entry.kind == RUNS else block for block in blocks]
+    if first is not None:
+        blocks[0] = first
     if RUNS_WRONG in steps:
         blocks[how["block"]] = bad_runs
     if RANGE_WRONG in steps:

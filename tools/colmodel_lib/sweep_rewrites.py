@@ -39,7 +39,7 @@ def rewrite_ways(dice):
     """The same rows held in every way. The new file is the same each time."""
     for name, values in chosen_shapes(dice):
         for edition in EDITIONS:
-            for way, block in encodings.ways_of(values, has_runs(edition)).items():
+            for way, block in encodings.blocks_of_ways(values, has_runs(edition)).items():
                 data = column_file([block], edition)
                 yield ask_rewritten(dice, f"edition {edition}, {name} as {way}", data, dice.below(2))
 

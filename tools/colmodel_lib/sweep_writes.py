@@ -219,17 +219,20 @@ def small_writes(dice):
     yield from small_blocks(dice)
 
 
+def small_shapes(dice):
+    """A block of each kind, a tie of all three kinds and one of kinds 1 and 2, and sums that wrap; all of short bodies."""
+    yield "kind 0, from 1 to 3", shapes.between(dice, 1, 3)
+    yield "all 7", [7] * 1024
+    yield "kind 1, from 2^63 - 1 to 2^63 + 1", shapes.between(dice, 2**63 - 1, 2**63 + 1)
+    yield "three ways of one length", shapes.with_widths(dice, 2, 2, 1)
+    yield "kinds 1 and 2 of one length", shapes.with_widths(dice, 9, 2, 1)
+    yield "rising by rows across 0", along_rows(lambda row, lane: 3 * row - 60 - lane)
+
+
 def small_blocks(dice):
-    """Each kind, some with marks behind the file; a tie of all three kinds and one of kinds 1 and 2; sums that wrap.
-    The last file comes once more, with an output that is one byte short."""
-    for name, values, more in (
-        ("kind 0, from 1 to 3", shapes.between(dice, 1, 3), 3),
-        ("all 7", [7] * 1024, 0),
-        ("kind 1, from 2^63 - 1 to 2^63 + 1", shapes.between(dice, 2**63 - 1, 2**63 + 1), 1),
-        ("three ways of one length", shapes.with_widths(dice, 2, 2, 1), 0),
-        ("kinds 1 and 2 of one length", shapes.with_widths(dice, 9, 2, 1), 0),
-        ("rising by rows across 0", along_rows(lambda row, lane: 3 * row - 60 - lane), 2),
-    ):
+    """These blocks, some with marks behind the file. The last file comes once more, with an output that is one byte
+    short."""
+    for (name, values), more in zip(list(small_shapes(dice)), (3, 0, 1, 0, 0, 2)):
         yield ask_to_fit(dice, name, values, more)
         data = writer.file_of(values)
         yield ask_check(f"what is written for {name}", data)

@@ -1,6 +1,6 @@
 """Readers that are wrong on purpose about edition 2, each in one thing.
 
-From Item 9 on the sample has to tell each of them from the right one, and so has the sweep.
+From Item 9 on the sample has to tell each of them from the right one.
 """
 from . import files
 from .files import BOTH, TOP

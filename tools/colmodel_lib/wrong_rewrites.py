@@ -1,11 +1,11 @@
 """Rewrites that are wrong on purpose, each in one thing.
 
-The sample has to tell each of them from the right one, and so has the sweep.
+The sample has to tell each of them from the right one, so that it finds out a program that is wrong in the same way.
 """
 from . import build, files, rewrite, writer
 from .files import BOTH, RUNS, words_of
 from .instead import instead
-from .stream import REWRITE, Outcome, answered
+from .stream import Outcome, answered
 from .switches import RUNS_IN_EDITION_2
 
 # First those that make another file.
@@ -218,19 +218,13 @@ WRONG_CALLS = {
 }
 
 
-def of_rewrites(questions):
-    return [question for question in questions if question.op == REWRITE]
-
-
-def not_told(questions, new_files, calls):
-    """Those of these rewrites that give what the right one gives in every question."""
-    questions = sorted(of_rewrites(questions), key=lambda question: len(question.a) + len(question.c))
-    outcomes = [answered(question) for question in questions]
+def not_told(asked, new_files, calls):
+    """Those of these rewrites that give what the right one gives in every case."""
     for name, function in new_files.items():
         with instead(rewrite, {"rewritten": function}):
-            told = any(answered(question) != outcome for question, outcome in zip(questions, outcomes))
+            told = any(answered(question) != outcome for question, outcome in asked)
         if not told:
             yield name
     for name, call in calls.items():
-        if all(call(question) == outcome for question, outcome in zip(questions, outcomes)):
+        if all(call(question) == outcome for question, outcome in asked):
             yield name

@@ -1,12 +1,12 @@
 """Searches that are wrong on purpose, each in one thing.
 
-The sample has to tell each of them from the right one, and so has the sweep.
+The sample has to tell each of them from the right one, so that it finds out a program that is wrong in the same way.
 """
 from . import files, layout, search
 from .build import words
 from .files import BOTH, RUNS, words_of
 from .instead import instead
-from .stream import SEARCH, Outcome, answered
+from .stream import Outcome, answered
 from .switches import RUNS_IN_EDITION_2
 from .wrong_writers import signed
 
@@ -301,20 +301,14 @@ WRONG_CALLS = {
 SORTS = ((search, WRONG_PARTS), (files, WRONG_BODIES))
 
 
-def of_searches(questions):
-    return [question for question in questions if question.op == SEARCH]
-
-
-def not_told(questions, sorts, calls):
-    """Those of these searches that give what the right one gives in every question."""
-    questions = sorted(of_searches(questions), key=lambda question: len(question.a) + 2 * len(question.c))
-    outcomes = [answered(question) for question in questions]
+def not_told(asked, sorts, calls):
+    """Those of these searches that give what the right one gives in every case."""
     for module, parts in sorts:
         for name, functions in parts.items():
             with instead(module, functions):
-                told = any(answered(question) != outcome for question, outcome in zip(questions, outcomes))
+                told = any(answered(question) != outcome for question, outcome in asked)
             if not told:
                 yield name
     for name, call in calls.items():
-        if all(call(question) == outcome for question, outcome in zip(questions, outcomes)):
+        if all(call(question) == outcome for question, outcome in asked):
             yield name

@@ -3,12 +3,12 @@
 The sweep has to tell each of them from the right one, so that it finds out a program that is wrong in the same way. The
 sample, where a block takes much room, has to tell those that it has the cases for.
 """
-import contextlib
 import struct
 
 from . import layout, trickle
 from .files import words_of
-from .stream import BY_HAND, TRICKLE, TRICKLE_FROM, TRICKLES, answered, fed_in
+from .instead import instead
+from .stream import BY_HAND, TRICKLE_FROM, answered, fed_in
 from .trickle import OF_WIDTH_0, ROOM, State, body_size, lacking
 
 # First those with another function in the place of one of the model's.
@@ -218,19 +218,6 @@ WRONG_PARTS = {
 }
 
 
-@contextlib.contextmanager
-def instead(functions):
-    """The model of trickles with other functions in it, for a while."""
-    kept = {name: getattr(trickle, name) for name in functions}
-    try:
-        for name, function in functions.items():
-            setattr(trickle, name, function)
-        yield
-    finally:
-        for name, function in kept.items():
-            setattr(trickle, name, function)
-
-
 # Then those that are right about the state and wrong about the call.
 
 
@@ -300,20 +287,15 @@ NOT_IN_SAMPLE = {
 }
 
 
-def of_trickles(questions):
-    return [question for question in questions if question.op in TRICKLES]
-
-
-def not_told(questions, parts, calls):
-    """Those of these trickles that give what the right one gives in every question. The questions with few chunks come
-    first, since they are answered soon."""
-    questions = sorted(of_trickles(questions), key=lambda question: len(question.b))
-    outcomes = [answered(question) for question in questions]
+def not_told(asked, parts, calls):
+    """Those of these trickles that give what the right one gives in every case. The cases with few chunks come first,
+    since they are answered soon."""
+    asked = sorted(asked, key=lambda case: len(case[0].b))
     for name, functions in parts.items():
-        with instead(functions):
-            told = any(answered(question) != outcome for question, outcome in zip(questions, outcomes))
+        with instead(trickle, functions):
+            told = any(answered(question) != outcome for question, outcome in asked)
         if not told:
             yield name
     for name, call in calls.items():
-        if all(call(question) == outcome for question, outcome in zip(questions, outcomes)):
+        if all(call(question) == outcome for question, outcome in asked):
             yield name

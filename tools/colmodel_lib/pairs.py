@@ -1,0 +1,162 @@
+"""Pairs of files for the program of Item 12: a few that are deliberate, and then random ones.
+
+A pair is a name and the bytes of left.col and of right.col; None is a file that is not there. Each random pair has dice
+of its own, made from the seed and the pair's number. So pair 77 of a seed is the same however many are written.
+"""
+from typing import NamedTuple
+
+from . import encodings, mixed_reads, mixed_rewrites, mixed_writes, shapes, sweep_reads, writer
+from .build import Dice, any_block, column_file, frame, ranged, with_index
+from .files import TOP
+from .sweep_reads import has_runs
+
+
+class Pair(NamedTuple):
+    name: str
+    left: bytes | None
+    right: bytes | None
+
+
+# Deliberate ones.
+
+
+def changed(values, changes):
+    """The numbers with others in some rows."""
+    return [changes.get(row, value) for row, value in enumerate(values)]
+
+
+def worked_pairs():
+    """Item 12's own: seven everywhere, against the same with 9 at row 3; and the other way round."""
+    sevens = [7] * 1024
+    nine = writer.file_of(changed(sevens, {3: 9}), 2)
+    yield Pair("Item 12's own pair", sweep_reads.SEVENS, nine)
+    yield Pair("Item 12's own pair, exchanged", nine, sweep_reads.SEVENS)
+
+
+def pairs_of_one_row():
+    """One row that differs, at the ends of blocks, and by the least and by the most."""
+    values = [5] * 3072
+    for row in (0, 1, 1023, 1024, 2047, 2048, 3071):
+        yield Pair(f"row {row}", writer.file_of(values, 2), writer.file_of(changed(values, {row: 6}), 2))
+    for old, new in ((0, TOP), (TOP, 0), (2**63 - 1, 2**63), (2**32, 0), (10, 1), (0, 1)):
+        left, right = changed(values[:1024], {77: old}), changed(values[:1024], {77: new})
+        yield Pair(f"{old} against {new}", writer.file_of(left, 1), writer.file_of(right, 2))
+
+
+def pairs_of_ways(dice):
+    """The same rows in every way and in both editions, against the writer's file: nothing differs."""
+    values = next(shapes.kind_1(dice, 3))
+    written = writer.file_of(values, 2)
+    for edition in (1, 2):
+        for name, block in encodings.blocks_of_ways(values, has_runs(edition)).items():
+            yield Pair(f"the same rows as {name} of edition {edition}", column_file([block], edition), written)
+
+
+def pairs_of_lengths():
+    """Row counts that differ, with rows in both that differ and without; files of no blocks."""
+    values = [number // 1024 for number in range(4096)]
+    for left, right in ((0, 0), (0, 1), (1, 0), (1, 2), (2, 1), (1, 4), (4, 3)):
+        for changes in ({}, {9: 8}, {4095: 8}):
+            name = f"{left} and {right} blocks, changes {changes}"
+            data = writer.file_of(values[: 1024 * left], 1)
+            yield Pair(name, data, writer.file_of(changed(values, changes)[: 1024 * right], 2))
+
+
+def pairs_refused():
+    """Files that are refused, with every number, on either side and on both; and files that are not there or are
+    empty."""
+    good, other = sweep_reads.SEVENS_2, writer.file_of([8] * 2048, 2)
+    bad = {"not there": None, "empty": b""}
+    for way in (1, 2, 3):
+        for step in sweep_reads.STEPS[1:9]:
+            if step not in sweep_reads.cannot_fail(way):
+                bad[f"{step}, way {way}"] = sweep_reads.faulty_file((step,), way)
+    for name, data in bad.items():
+        yield Pair(f"left: {name}", data, good)
+        yield Pair(f"right: {name}", other, data)
+    of_entry, of_index = "10 entry wrong, way 2", "13 run index, way 1"
+    for left, right in (("not there", "not there"), (of_index, "not there"), ("not there", of_entry), (of_index, of_entry)):
+        yield Pair(f"left: {left}; right: {right}", bad[left], bad[right])
+    yield Pair("a run block of edition 2", good, column_file([frame(0, b"", 7), encodings.as_runs([7] * 1024)], 2))
+
+
+def large_pairs(dice):
+    """256 blocks on either side: every row differs, one row of each block does, and none; and wide blocks."""
+    blocks = [frame(0, b"", n) for n in range(256)]
+    left = column_file(blocks, 1)
+    yield Pair("256 blocks, every row", left, column_file([frame(0, b"", n + 1) for n in range(256)], 2))
+    one = encodings.as_frame([3] * 500 + [4] + [3] * 523)
+    three = frame(0, b"", 3)
+    yield Pair("256 blocks, row 500 of each", column_file([three] * 256, 2), column_file([one] * 256, 1))
+    yield Pair("256 and 255 blocks", left, column_file(blocks[:255], 2))
+    few = [any_block(dice, kind, 64) for kind in (0, 1, 2)]
+    wide = [few[n % 3] for n in range(256)]
+    yield Pair("256 wide blocks", column_file(wide, 1), column_file(wide, 2))
+
+
+def deliberate():
+    dice = Dice("pairs")
+    yield from worked_pairs()
+    yield from pairs_of_one_row()
+    yield from pairs_of_ways(dice)
+    yield from pairs_of_lengths()
+    yield from pairs_refused()
+    yield from large_pairs(dice)
+
+
+# Random ones.
+
+
+def some_changes(dice, values):
+    """The numbers with a few others, or with many, or as they are; sometimes fewer or more of them."""
+    values = list(values)
+    shape = dice.below(6)
+    for _ in range(min(len(values), (0, 1, 2, 9, 300, 0)[shape])):
+        row = dice.below(len(values))
+        values[row] = dice.pick(((values[row] + 1) % 2**64, (values[row] - 1) % 2**64, 0, TOP, dice.number()))
+    if shape == 5 and dice.below(2):
+        return values[1024:]
+    return values + mixed_writes.some_numbers(dice) if dice.below(8) == 0 else values
+
+
+def held(dice, values):
+    """A file of these numbers: written in either edition, or with blocks held in some way."""
+    edition = dice.pick((1, 2))
+    if dice.below(2):
+        return writer.file_of(values, edition)
+    blocks = writer.blocks_of(values)
+    return column_file([mixed_rewrites.some_way(dice, block, edition) for block in blocks], edition)
+
+
+def some_accident(dice, data):
+    """The file, or in one of eight pairs a file that is not there, damaged, or has a run block with a bad index."""
+    if dice.below(8):
+        return data
+    sort = dice.below(5)
+    if sort == 0:
+        return None
+    if sort == 1:
+        return mixed_reads.some_file(dice, (1, 2))[0]
+    if sort == 2:
+        bad = with_index(encodings.as_runs([dice.below(9)] * 1024), dice.below(1024), 1 + dice.below(9))
+        return column_file([frame(0, b"", dice.number()), bad], 1)
+    if sort == 3:
+        lie = sweep_reads.off_by_one(ranged(frame(0, b"", 1 + dice.below(9))))
+        return column_file([frame(0, b"", 3)] * dice.below(3) + [lie], 2)
+    damaged = bytearray(data)
+    dice.pick(mixed_reads.TO_BYTES)(dice, damaged)
+    return bytes(damaged)
+
+
+def some_pair(seed, i):
+    dice = Dice("pair", seed, i)
+    values = mixed_writes.some_values(dice)
+    left, right = held(dice, values), held(dice, some_changes(dice, values))
+    return Pair(f"pair {i} of seed {seed}", some_accident(dice, left), some_accident(dice, right))
+
+
+def pairs(seed, count):
+    """So many pairs: first the deliberate ones, and then those of the seed."""
+    first = list(deliberate())[:count]
+    yield from first
+    yield from (some_pair(seed, i) for i in range(len(first), count))
