@@ -3,11 +3,10 @@
 // the stream and of what is printed is docs/CASES.md.
 //
 // Here stand the loop over the cases and the way of one case. Of the modules, wire reads the stream; t8, t16, t32
-// and t64 make the calls, with the help of narrow and indices, and bit_block those on bit blocks; outcome compares; and
+// and t64 make the calls, with the help of indices, and bit_block those on bit blocks; outcome compares; and
 // print prints. The crate stream has the head of a record, the judge and the counts.
 mod bit_block;
 mod indices;
-mod narrow;
 mod outcome;
 mod print;
 mod t16;

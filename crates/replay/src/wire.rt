@@ -1,14 +1,14 @@
 // Reading the stream: the head of a record, its buffers, and the little-endian numbers that both are made of.
 use crate::Wide;
-use crate::narrow::widen_u8;
-use crate::narrow::widen_u16;
-use crate::narrow::widen_u32;
 use libc::STDIN_FILENO;
 use little::pair;
 use little::quad;
 use little::word;
 use stream::Head;
 use stream::head_of;
+use stream::narrow::widen_u8;
+use stream::narrow::widen_u16;
+use stream::narrow::widen_u32;
 ghost use mathlib.Core.Path.{_≡_};
 ghost use mathlib.Core.Bool.{true};
 ghost use Prim.Native.Nat.{_+_, _*_, _/_, _≤_};
