@@ -8,7 +8,7 @@ from .build import column_file, frame
 from .check_writes import unless
 from .sweep_reads import NO_BLOCKS, NO_BLOCKS_2, SEVENS, SEVENS_2
 
-COUNT = 260  # of the pairs that are looked at; more than the deliberate ones
+COUNT = 200  # of the pairs that are looked at; more than the deliberate ones
 
 
 def worked_texts():
@@ -92,21 +92,14 @@ def wrong_ones_told(some_pairs):
     yield from unless(right == ["no fault"], "the pairs find out the right program")
 
 
-def same_for_any_count():
-    few, more = list(pairs.pairs(3, 130)), list(pairs.pairs(3, 135))
-    yield from unless(more[:130] == few, "a pair depends on how many are written")
-
-
 def is_short(pair):
     return max(len(data or b"") for data in (pair.left, pair.right)) < 40000
 
 
 def failures():
-    """The long pairs, which are few, are looked at once."""
-    some_pairs = list(pairs.pairs(1, COUNT))
-    short = list(filter(is_short, some_pairs))
+    """The long pairs take a while and are few, so they are left out here."""
+    short = list(filter(is_short, pairs.pairs(1, COUNT)))
     yield from worked_texts()
-    yield from every_row_once(some_pairs)
-    yield from what_is_reached(some_pairs)
+    yield from every_row_once(short)
+    yield from what_is_reached(short)
     yield from wrong_ones_told(short)
-    yield from same_for_any_count()

@@ -5,6 +5,7 @@ from functools import partial
 
 from . import build, layout, writer
 from .files import DIFFERENCES, FRAME, PACKED, RUNS
+from .layout import WRAP
 
 
 def as_packed(values, more=0):
@@ -16,7 +17,7 @@ def as_packed(values, more=0):
 def as_frame(values, reference=None, more=0):
     """Kind 1, with the smallest as its reference or with another."""
     reference = min(values) if reference is None else reference
-    above = [(value - reference) % 2**layout.T for value in values]
+    above = [(value - reference) % WRAP for value in values]
     width = writer.least_width(above) + more
     return build.frame(width, build.packed_bytes(width, above), reference)
 
@@ -51,13 +52,13 @@ def other_reference(values):
     """The farthest reference below the smallest that needs no more width; None where there is none."""
     width = writer.least_width([max(values) - min(values)])
     spare = 2**width - 1 - (max(values) - min(values))
-    return (min(values) - spare) % 2**layout.T if spare else None
+    return (min(values) - spare) % WRAP if spare else None
 
 
 def lower_base(values, lane):
     """The base with one number less in a lane."""
     base = list(writer.base_of(values))
-    base[lane] = (base[lane] - 1) % 2**layout.T
+    base[lane] = (base[lane] - 1) % WRAP
     return base
 
 
@@ -74,7 +75,7 @@ def frame_ways(values):
     yield "kind 1", partial(as_frame, values)
     if writer.least_width([largest - smallest]) < layout.T:
         yield "kind 1 one bit wider", partial(as_frame, values, more=1)
-    references = {"from 0": 0, "from one less": (smallest - 1) % 2**layout.T, "from the largest": largest}
+    references = {"from 0": 0, "from one less": (smallest - 1) % WRAP, "from the largest": largest}
     references |= {"from afar at the same width": other_reference(values)}
     for name, reference in references.items():
         if reference not in (None, smallest):
@@ -96,7 +97,7 @@ def difference_ways(values):
 def run_ways(values):
     yield "kind 3", partial(as_runs, values)
     if len(set(values)) < 1020:
-        yield "kind 3 with unused values", partial(as_runs, values, before=[0, 2**layout.T - 1], after=[5])
+        yield "kind 3 with unused values", partial(as_runs, values, before=[0, WRAP - 1], after=[5])
 
 
 def ways_of(values, runs):

@@ -26,6 +26,7 @@ import struct
 from typing import NamedTuple
 
 from . import layout, switches
+from .layout import WRAP
 
 PACKED, FRAME, DIFFERENCES, RUNS = range(4)
 KINDS = ("packed", "frame", "differences", "runs")
@@ -34,7 +35,7 @@ HEAD = struct.Struct("<HH")
 ENTRIES = {1: struct.Struct("<BBHIQ"), 2: struct.Struct("<BBHIQQQ")}  # by edition
 INDICES = struct.Struct("<1024H")
 BASE_BYTES = 8 * layout.LANES
-TOP = 2**layout.T - 1
+TOP = WRAP - 1
 
 
 class Answer(NamedTuple):
@@ -217,11 +218,11 @@ def values_in(kind, width, reference, body):
         differences = layout.unpack(width, words_of(body[BASE_BYTES:]))
         return layout.undelta(differences, words_of(body[:BASE_BYTES]))
     digits = layout.unpack(width, words_of(body))
-    return [(reference + digit) % 2**layout.T for digit in digits] if kind == FRAME else digits
+    return [(reference + digit) % WRAP for digit in digits] if kind == FRAME else digits
 
 
 # The last ones are kept, as their bytes, which take less room, and with their smallest and largest.
-@functools.lru_cache(maxsize=3000)
+@functools.lru_cache(maxsize=4000)
 def kept_values(kind, width, reference, body):
     values = values_in(kind, width, reference, body)
     return struct.pack("<1024Q", *values), (min(values), max(values))

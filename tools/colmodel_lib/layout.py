@@ -10,6 +10,7 @@ delta, and so do the cases.
 T = 64
 LANES = 1024 // T
 ORDER = (0, 4, 2, 6, 1, 5, 3, 7)
+WRAP = 2**T  # Sums and differences wrap modulo this.
 
 
 def place(row, lane):
@@ -40,7 +41,7 @@ def pack(width, values):
     for lane in range(LANES):
         number = sum(values[p] % base * power for p, power in zip(PLACES[lane], powers))
         for k in range(width):
-            number, words[LANES * k + lane] = divmod(number, 2**T)
+            number, words[LANES * k + lane] = divmod(number, WRAP)
     return words
 
 
@@ -61,7 +62,7 @@ def delta(values, base):
     for lane in range(LANES):
         before = base[lane]
         for p in PLACES[lane]:
-            out[p] = (values[p] - before) % 2**T
+            out[p] = (values[p] - before) % WRAP
             before = values[p]
     return out
 
@@ -72,7 +73,7 @@ def undelta(differences, base):
     for lane in range(LANES):
         result = base[lane]
         for p in PLACES[lane]:
-            result = (result + differences[p]) % 2**T
+            result = (result + differences[p]) % WRAP
             out[p] = result
     return out
 

@@ -14,24 +14,24 @@ Kind 0 is never the only shortest, and where kinds 0 and 2 are equally short, ki
 import struct
 
 from . import layout
-from .layout import LANES, ORDER, T
+from .layout import LANES, ORDER, T, WRAP
 
-TOP = 2**T - 1
+TOP = WRAP - 1
 MOST_WIDTH = (64, 63, 62)  # by kind, of those that can be chosen
 
 
 def along_rows(number):
     """The block whose row r of lane l holds number(r, l), modulo 2^64."""
     block = [0] * 1024
-    for row in range(T):
-        for lane in range(LANES):
-            block[layout.place(row, lane)] = number(row, lane) % 2**T
+    for lane, places in enumerate(layout.PLACES):
+        for row, place in enumerate(places):
+            block[place] = number(row, lane) % WRAP
     return block
 
 
 def by_place(number):
     """The block that holds number(p) at place p, modulo 2^64."""
-    return [number(p) % 2**T for p in range(1024)]
+    return [number(p) % WRAP for p in range(1024)]
 
 
 def transposed(block):
@@ -98,7 +98,7 @@ def kind_0(dice, width):
 def kind_1(dice, width):
     """A reference that saves just one bit, and then a far one."""
     yield between(dice, 2**width, 2**width + highest(width))
-    reference = 2**width + dice.below(2**T - 2**width - lowest(width))
+    reference = 2**width + dice.below(WRAP - 2**width - lowest(width))
     yield between(dice, reference, reference + lowest(width))
 
 

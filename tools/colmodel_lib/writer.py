@@ -21,6 +21,7 @@ from typing import NamedTuple
 
 from . import build, files, layout
 from .files import DIFFERENCES, FRAME, PACKED, Answer
+from .layout import WRAP
 from .switches import EDITION_WRITTEN
 
 WRITTEN = Answer(0, 0, "the file is written")
@@ -64,7 +65,7 @@ def candidate(kind, digits, reference=0, base=()):
 def candidates(values):
     """The three candidates of a block, by kind."""
     reference, base = reference_of(values), base_of(values)
-    above = [(value - reference) % 2**layout.T for value in values]
+    above = [(value - reference) % WRAP for value in values]
     packed = candidate(PACKED, values)
     frame = candidate(FRAME, above, reference=reference)
     return packed, frame, candidate(DIFFERENCES, differences_of(values, base), base=base)
@@ -86,7 +87,7 @@ def range_of(values):
     return min(values), max(values)
 
 
-@functools.lru_cache(maxsize=2000)
+@functools.lru_cache(maxsize=4000)
 def block_for(numbers):
     """The block that is written for 1,024 numbers. It is kept, so they come as their bytes, which take less room."""
     values = files.words_of(numbers)
