@@ -24,7 +24,7 @@ use Rattle.contents.specs.declared.FileAnswer.the-variants.{Done, Block, Cut, E
 use Rattle.contents.specs.Answers.{FileTest, a-number, good-runs, true-ranges, fileAnswer, numberOf}
 use Rattle.contents.specs.Contents.{edition, count, contentsSize, entryOf, rangeOf, isLaidOut, isOrdered, isRight, badEntry, bodyStart, entriesTests, contentsTests}
 use Rattle.contents.specs.First.{firstBad}
-use Rattle.contents.proofs.Accepted.{accepts}
+use Rattle.contents.proofs.Accepted.{accepted, accepts}
 use Rattle.contents.proofs.Answers.{passed, stopped, none-left, in-front-done, in-front-refused, number-done}
 use Rattle.contents.proofs.Checks as Checks
 use Rattle.contents.proofs.First.{first-only, first-before, first-at}
@@ -43,7 +43,7 @@ use Rattle.files.proofs.Ranges.{ranges-done, range-at}
 
 -- The test of each number says that something holds of it. So the search for the lowest that fails is for the lowest of which it does not hold.
 module _ (n : ℕ) (test : ℕ → Bool) (Holds : ℕ → Type 0) (plain : (i : ℕ) → (test i ≡ true) ↔ Holds i) where
-  lowest-found : (p : ℕ) → p < n → (Holds p → ⊥) → ((i : ℕ) → i < p → Holds i) → firstBad n test ≡ p
+  pub lowest-found : (p : ℕ) → p < n → (Holds p → ⊥) → ((i : ℕ) → i < p → Holds i) → firstBad n test ≡ p
   lowest-found p h bad before =
       sym (first-only n p test (omega arith) (λ i b. plain i .1 (before i b)) (λ _. not-true (test p) (λ e. bad (plain p .0 e))))
     where
@@ -51,16 +51,16 @@ module _ (n : ℕ) (test : ℕ → Bool) (Holds : ℕ → Type 0) (plain : (i : 
       not-true true n = absurd (n refl)
       not-true false n = refl
 
-  none-found : ((i : ℕ) → i < n → Holds i) → firstBad n test ≡ n
+  pub none-found : ((i : ℕ) → i < n → Holds i) → firstBad n test ≡ n
   none-found all = sym (first-only n n test (omega arith) (λ i b. plain i .1 (all i b)) (λ h. absurd (omega arith)))
 
-  before-holds : (i : ℕ) → i < firstBad n test → Holds i
+  pub before-holds : (i : ℕ) → i < firstBad n test → Holds i
   before-holds i h = plain i .0 (first-before n test i h)
 
-  at-fails : firstBad n test < n → Holds (firstBad n test) → ⊥
+  pub at-fails : firstBad n test < n → Holds (firstBad n test) → ⊥
   at-fails h holds = false-true (sym (first-at n test h) ∙ plain (firstBad n test) .1 holds)
 
-  all-hold : (firstBad n test < n → ⊥) → (i : ℕ) → i < n → Holds i
+  pub all-hold : (firstBad n test < n → ⊥) → (i : ℕ) → i < n → Holds i
   all-hold h i b =
       elim (decLt (firstBad n test) n) [
         | yes some ↦ absurd (h some)
@@ -91,7 +91,7 @@ runs-plain e body = go (eqb (e .kind) 3) refl
 
 module _ (l : List ℕ) where
   -- So does that of its run indices, block by block,
-  good-plain : (i : ℕ) → (goodIn l i ≡ true) ↔ GoodRuns (entryOf l i) (bodyOf l i)
+  pub good-plain : (i : ℕ) → (goodIn l i ≡ true) ↔ GoodRuns (entryOf l i) (bodyOf l i)
   good-plain i = runs-plain (entryOf l i) (bodyOf l i)
 
   -- that of an entry,
@@ -155,7 +155,7 @@ module _ (l : List ℕ) where
   of-entries : (a : FileAnswer) → Headed l → fileAnswer (entriesTests l (length l)) ≡ a → (numberOf a ≡ 0 → ⊥) → fileAnswer (fileTests l) ≡ a
   of-entries a w e h = of-contents a (Checks.entries-there l (length l) (w .head) (w .first) (w .few) (w .room) ∙ e) h
 
-  right-done : Right l → fileAnswer (contentsTests l (length l)) ≡ Done
+  pub right-done : Right l → fileAnswer (contentsTests l (length l)) ≡ Done
   right-done r =
       accepts l (length l)
       (record {
@@ -166,6 +166,15 @@ module _ (l : List ℕ) where
         right = λ i h. entry-plain i .1 (r .entries i h);
         end = r .end;
       })
+
+  pub done-right : fileAnswer (contentsTests l (length l)) ≡ Done → Right l
+  done-right done =
+      let w = accepted l (length l) done in
+      record {
+        headed = record { head = w .head; first = w .first; few = w .few; room = w .room };
+        entries = λ i h. entry-plain i .0 (w .right i h);
+        end = w .end;
+      }
 
   of-runs : Right l → fileAnswer (fileTests l) ≡ fileAnswer (good-runs (badRuns l) (count l) ∷ true-ranges (badRange l) (count l) ∷ [])
   of-runs r = in-front-done (contentsTests l (length l)) (good-runs (badRuns l) (count l) ∷ true-ranges (badRange l) (count l) ∷ []) (right-done r)

@@ -1,5 +1,8 @@
 pub mod Answers
 pub mod Blocks
 pub mod Listing
+pub mod Members
 pub mod Passing
+pub mod Reasons
+pub mod Theorems
 pub mod Walks
