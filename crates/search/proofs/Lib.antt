@@ -5,4 +5,5 @@ pub mod Members
 pub mod Passing
 pub mod Reasons
 pub mod Theorems
+pub mod Unopened
 pub mod Walks

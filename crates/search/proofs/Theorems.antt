@@ -58,8 +58,8 @@ unfolding opens
 opens-exactly l low high i = (
   λ e. ⊎-elim (λ one. inl (eqb-true (edition l) 1 one)) (λ m. inr (meets-common (rangeOf l i) low high .0 m)) (either-true _ _ e),
   ⊎-elim
-  (λ one. ap (λ t. either t (meets (rangeOf l i) low high)) (eq-eqb (edition l) 1 one))
-  (λ c. shown (eqb (edition l) 1) (meets-common (rangeOf l i) low high .1 c)),
+      (λ one. ap (λ t. either t (meets (rangeOf l i) low high)) (eq-eqb (edition l) 1 one))
+      (λ c. shown (eqb (edition l) 1) (meets-common (rangeOf l i) low high .1 c)),
 )
   where
     shown : (t : Bool) {m : Bool} → m ≡ true → either t m ≡ true
@@ -84,16 +84,16 @@ module _ (l : List ℕ) (low high : ℕ) (bytes : Elements 8 l) (done : fileAnsw
   missed second i h miss j g =
       not-then (between low high (getD (blockIn l i) j 0))
       (λ e.
-          let at = file-spans l bytes done second i h .between j (omega (arith, in-long l low high i)) in
-          let b = between-exactly low high (getD (blockIn l i) j 0) .0 e in
-          let c : Common (rangeOf l i) low high = record {
-            number = getD (blockIn l i) j 0;
-            above-smallest = at .0;
-            below-largest = at .1;
-            above-low = b .0;
-            below-high = b .1;
-          } in
-          false-true (sym miss ∙ meets-common (rangeOf l i) low high .1 c))
+      let at = file-spans l bytes done second i h .between j (omega (arith, in-long l low high i)) in
+      let b = between-exactly low high (getD (blockIn l i) j 0) .0 e in
+      let c : Common (rangeOf l i) low high = record {
+        number = getD (blockIn l i) j 0;
+        above-smallest = at .0;
+        below-largest = at .1;
+        above-low = b .0;
+        below-high = b .1;
+      } in
+      false-true (sym miss ∙ meets-common (rangeOf l i) low high .1 c))
 
   -- So a row is listed exactly when its value lies between the bounds,
   listed-is : (p : ℕ) → p < rowCount l → listed l low high p ≡ between low high (rowAt l p)
