@@ -1,6 +1,6 @@
 -- In a file whose contents are right, what is asked of the body that begins where body i does is asked of body i, and its block is block i.
 -- Assumes nothing.
-use mathlib.Core.Bool.{Bool, true}
+use mathlib.Core.Bool.{true}
 use mathlib.Core.List.{List, []}
 use mathlib.Core.Path.{_≡_, refl, sym, ap, ap₂, _∙_}
 use Prim.Native.Nat.{ℕ, _+_, _<_}
@@ -10,7 +10,7 @@ use borrow.Author.Tests.{eq-eqb, le-leb}
 use Rattle.places.specs.Pick.{pick}
 use Rattle.contents.specs.declared.FileAnswer.the-variants.{Done, Runs}
 use Rattle.contents.specs.Answers.{fileAnswer, isDone}
-use Rattle.contents.specs.Contents.{edition, count, entryOf, entryOr, rangeOf, bodyStart, contentsTests}
+use Rattle.contents.specs.Contents.{edition, count, entryOr, rangeOf, bodyStart, contentsTests}
 use Rattle.bodies.specs.Bodies as Bodies
 use Rattle.bodies.specs.Ranges.{isRange}
 use Rattle.files.specs.Files.{bodyOf, blockIn, hasTrueRange}

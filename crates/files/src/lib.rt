@@ -24,7 +24,7 @@ ghost use Rattle.contents.specs.Answers.{true-ranges, fileAnswer, numberOf};
 ghost use Rattle.contents.specs.Contents.{edition as editionIn, count as countIn, entryOf, bodyStart, contentsTests};
 ghost use Rattle.contents.specs.First.{firstBad};
 ghost use Rattle.bodies.specs.Bodies.{hasGoodRuns};
-ghost use Rattle.files.specs.Files.{bodyOf, blockIn, hasTrueRange, badRange, fileTests, blockTests, blockLeaves};
+ghost use Rattle.files.specs.Files.{bodyOf, blockIn, badRange, fileTests, blockTests, blockLeaves};
 ghost use Rattle.files.specs.Froms.{bodyFrom, goodFrom, fromTests, fromLeaves, trueFrom};
 ghost use Rattle.files.specs.InnerRuns.{runsTests};
 ghost use Rattle.files.specs.Rows.{answerOf, valueOf, wordsOf, wordsIn, rowOf};

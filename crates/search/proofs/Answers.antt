@@ -1,7 +1,7 @@
 -- What the search answers by its tests, and what it leaves.
 -- Assumes nothing.
 use mathlib.Core.Bool.{Bool, true, false}
-use mathlib.Core.List.{List, [], _∷_, _++_}
+use mathlib.Core.List.{List, [], _∷_}
 use mathlib.Core.Path.{_≡_, refl, sym, ap, ap₂, _∙_}
 use Prim.Native.Nat.{ℕ, zero, suc, _+_, _*_, _≤_, _<_}
 use native.Mathlib.Nat.{zero-add}
@@ -21,14 +21,14 @@ use Rattle.contents.proofs.Accepted.{done-first}
 use Rattle.contents.proofs.Answers.{passed, stopped, none-left, in-front-done, in-front-refused, left-refused}
 use Rattle.contents.proofs.First.{first-only, first-le}
 use Rattle.bodies.specs.Ranges.{isRange}
-use Rattle.files.specs.Files.{blockIn, hasTrueRange, rowCount}
+use Rattle.files.specs.Files.{blockIn, hasTrueRange}
 use Rattle.search.specs.declared.Found.the-variants.{Rows, Refused}
 use Rattle.search.specs.InnerBlocks.{asked, badIn, inBlock}
 use Rattle.search.specs.Passing.{passing}
-use Rattle.search.specs.Search.{opens, opened, listed, found, badRunsIn, badRangeIn, openedTests, searchTests, foundOf, searchLeaves}
+use Rattle.search.specs.Search.{opens, opened, found, badRunsIn, badRangeIn, openedTests, searchTests, foundOf, searchLeaves}
 use Rattle.search.proofs.Blocks.{in-long}
 use Rattle.search.proofs.Listing.{more-pass, same-pass, pass-mono}
-use Rattle.search.proofs.Passing.{passing-none-yet, passing-length}
+use Rattle.search.proofs.Passing.{passing-length}
 use Rattle.search.proofs.Walks.{foundTo, found-length, found-shut, found-all}
 
 -- A list of no entries is empty.

@@ -8,7 +8,6 @@ use native.Mathlib.Omega.{arith}
 use lib.Dec.{eqb}
 use lib.ListN.{length, getD}
 use Rattle.places.specs.Pick.{pick, both}
-use Rattle.places.specs.Sizes.{t64}
 use Rattle.places.proofs.Tabs.{length-tab}
 use Rattle.packing.specs.Packed.{unpackOf}
 use Rattle.deltas.specs.Deltas.{unforPackOf, undeltaPackOf}

@@ -1,10 +1,10 @@
 -- Each number of a search is given exactly when document 02's Item 9 lists it: the tests agree with the plain reasons.
 -- Assumes nothing.
 use mathlib.Core.Bool.{Bool, true, false}
-use mathlib.Core.List.{List, [], _∷_, _++_}
+use mathlib.Core.List.{List, [], _∷_}
 use mathlib.Core.Logic.{_↔_, _⊎_, inl, inr, ⊎-elim}
 use mathlib.Core.Path.{_≡_, refl, sym, ap, subst, _∙_}
-use Prim.Native.Nat.{ℕ, _≤_, _<_}
+use Prim.Native.Nat.{ℕ, _≤_}
 use native.Mathlib.Decide.{decLe, decLt, ℕ-discrete}
 use native.Mathlib.Omega.{arith}
 use lib.ListN.{length}
@@ -14,14 +14,14 @@ use Rattle.places.proofs.Tests.{false-true}
 use Rattle.contents.specs.declared.FileAnswer.{FileAnswer}
 use Rattle.contents.specs.declared.FileAnswer.the-variants.{Done, Runs, Range, Room}
 use Rattle.contents.specs.Answers.{FileTest, good-runs, true-ranges, passes, refusal, fileAnswer, numberOf}
-use Rattle.contents.specs.Contents.{edition, count, entryOf, contentsTests}
+use Rattle.contents.specs.Contents.{count, entryOf, contentsTests}
 use Rattle.contents.specs.First.{firstBad}
 use Rattle.contents.proofs.First.{first-at}
 use Rattle.contents.proofs.Answers.{passed, stopped, none-left, in-front-done, in-front-refused, number-done}
-use Rattle.files.specs.Files.{bodyOf, hasTrueRange, fileTests, badRuns, badRange}
+use Rattle.files.specs.Files.{bodyOf, badRuns, badRange}
 use Rattle.files.specs.Plain.{GoodRuns, TrueRange, Right, Reason}
 use Rattle.files.proofs.Reasons.{lowest-found, none-found, before-holds, at-fails, all-hold, good-plain, range-plain, reason-gives, file-exactly, right-done, done-right}
-use Rattle.search.specs.InnerBlocks.{asked, badIn}
+use Rattle.search.specs.InnerBlocks.{asked}
 use Rattle.search.specs.Plain.{Opened, OpenedGood, OpenedTrue, SearchReason, of-contents, opened-runs, opened-range, short-room, rows-there}
 use Rattle.search.specs.Search.{opens, found, openedTests, searchTests}
 use Rattle.search.proofs.Answers as Answers

@@ -2,14 +2,14 @@
 -- listed once each and rising, and what is read off an answer.
 -- Assumes nothing.
 use mathlib.Core.Bool.{Bool, true, false}
-use mathlib.Core.List.{List, []}
+use mathlib.Core.List.{List}
 use mathlib.Core.Logic.{_↔_, _⊎_, inl, inr, ⊎-elim}
 use mathlib.Core.Path.{_≡_, refl, sym, ap, ap₂, _∙_}
-use Prim.Native.Nat.{ℕ, _+_, _*_, _/_, _%_, _≤_, _<_, min, max}
+use Prim.Native.Nat.{ℕ, _/_, _%_, _≤_, _<_, min, max}
 use native.Mathlib.Omega.{arith}
 use lib.Dec.{leb, eqb}
 use lib.ListN.{length, getD}
-use borrow.Author.Tests.{le-leb, leb-true, lt-leb, leb-false, eq-eqb, eqb-true, ne-eqb}
+use borrow.Author.Tests.{le-leb, leb-true, eq-eqb, eqb-true}
 use Rattle.places.specs.Numbers.{Elements}
 use Rattle.places.specs.Pick.{pick, both, either}
 use Rattle.places.proofs.Tests.{both-true, either-true, false-true}
@@ -18,14 +18,15 @@ use Rattle.contents.specs.declared.FileAnswer.the-variants.{Done}
 use Rattle.contents.specs.declared.Range.{Range}
 use Rattle.contents.specs.Answers.{fileAnswer, isDone, left, numberOf}
 use Rattle.contents.specs.Contents.{edition, count, rangeOf}
-use Rattle.contents.proofs.Answers.{says-answer, left-refused}
-use Rattle.bodies.proofs.Ranges.{Spans}
+use Rattle.contents.proofs.Answers.{says-answer}
 use Rattle.files.specs.Files.{blockIn, rowCount, rowAt, fileTests}
 use Rattle.files.proofs.Files.{whole}
 use Rattle.files.proofs.Ranges.{contents-right, file-runs, file-spans}
+use Rattle.search.specs.declared.Found.{Found}
+use Rattle.search.specs.declared.Found.the-variants.{Rows, Refused}
 use Rattle.search.specs.Passing.{passing}
 use Rattle.search.specs.Plain.{Common, Opened, Stands, RowBetween, Rising}
-use Rattle.search.specs.Search.{between, meets, opens, listed, found, searchTests, foundOf, searchLeaves, answerOf}
+use Rattle.search.specs.Search.{between, meets, opens, opened, listed, found, searchTests, foundOf, searchLeaves, answerOf, rowsFound, blocksOpened}
 use Rattle.search.proofs.Answers.{search-refused}
 use Rattle.search.proofs.Blocks.{in-long}
 use Rattle.search.proofs.Members.{stands-passes, passes-stands, passing-rises}
@@ -139,7 +140,29 @@ pub search-unchanged : (l : List ℕ) (low high : ℕ) (rows : List ℕ) → (nu
     → searchLeaves l low high rows ≡ rows
 search-unchanged l low high rows n = search-refused l low high rows (fileAnswer (searchTests l low high rows)) refl n .1
 
--- What is given back says the answer of the tests.
-pub search-answers : (l : List ℕ) (low high : ℕ) (rows : List ℕ) → answerOf (foundOf l low high rows) ≡ fileAnswer (searchTests l low high rows)
-unfolding foundOf
-search-answers l low high rows = says-answer answerOf _ _ refl (λ _. refl) (fileAnswer (searchTests l low high rows))
+-- What is given back says the answer of the tests, and how many rows and blocks where the search is done, and else 0.
+module _ (l : List ℕ) (low high : ℕ) (rows : List ℕ) where
+  abbrev answer : FileAnswer
+  answer = fileAnswer (searchTests l low high rows)
+
+  abbrev given : Found
+  given = Rows (length (found l low high)) (length (opened l low high))
+
+  pub search-answers : answerOf (foundOf l low high rows) ≡ answer
+  unfolding foundOf
+  search-answers = says-answer answerOf given Refused refl (λ _. refl) answer
+
+  -- by whether the search is done
+  read-off : (read : Found → ℕ) → ((a : FileAnswer) → read (Refused a) ≡ 0) → read (foundOf l low high rows) ≡ left answer (read given) 0
+  unfolding foundOf
+  read-off read none = go (isDone answer)
+    where
+      go : (b : Bool) → read (pick b given (Refused answer)) ≡ pick b (read given) 0
+      go true = refl
+      go false = none answer
+
+  pub search-rows : rowsFound (foundOf l low high rows) ≡ left answer (length (found l low high)) 0
+  search-rows = read-off rowsFound (λ _. refl)
+
+  pub search-opened : blocksOpened (foundOf l low high rows) ≡ left answer (length (opened l low high)) 0
+  search-opened = read-off blocksOpened (λ _. refl)

@@ -2,14 +2,14 @@
 -- Assumes nothing.
 use mathlib.Core.Bool.{Bool, true, false}
 use mathlib.Core.List.{List, _++_, append-nil}
-use mathlib.Core.Path.{_≡_, refl, sym, ap, ap₂, _∙_}
+use mathlib.Core.Path.{_≡_, sym, ap, ap₂, _∙_}
 use Prim.Native.Nat.{ℕ, _+_, _*_, _≤_, _<_}
 use native.Mathlib.Nat.{zero-add}
 use native.Mathlib.Omega.{arith}
 use lib.ListN.{length, length-append}
 use Rattle.places.specs.Pick.{pick}
 use Rattle.places.specs.Tab.{over}
-use Rattle.places.proofs.Overs.{length-over, over-append}
+use Rattle.places.proofs.Overs.{over-append}
 use Rattle.contents.specs.Contents.{count}
 use Rattle.contents.proofs.First.{first-before}
 use Rattle.files.specs.Files.{blockIn, rowCount}
@@ -18,7 +18,7 @@ use Rattle.search.specs.Passing.{passing}
 use Rattle.search.specs.Search.{opens, listed, found}
 use Rattle.search.proofs.Blocks.{in-long, listed-in, not-listed}
 use Rattle.search.proofs.Listing.{pass-mono}
-use Rattle.search.proofs.Passing.{passing-none-yet, passing-split, passing-ext, passing-nothing}
+use Rattle.search.proofs.Passing.{passing-split, passing-ext, passing-nothing}
 
 -- These are the rows that are found in the blocks below i.
 abbrev pub foundTo : (l : List ℕ) (low high i : ℕ) → List ℕ
@@ -30,9 +30,6 @@ module _ (l : List ℕ) (low high : ℕ) where
   opened-asked ranges none i h is-open =
       sym (ap (λ t. pick t (asked l ranges i) true) is-open)
       ∙ first-before (count l) (λ i. pick (opens l low high i) (asked l ranges i) true) i (omega arith)
-
-  pub found-none : foundTo l low high 0 ≡ passing 0 0 (listed l low high)
-  found-none = refl
 
   -- Block i adds the rows that are found in it, where it is opened, and else nothing.
   module _ (i : ℕ) where

@@ -1,6 +1,6 @@
 -- `files::block_from` meets its contract: it hands on what `block_of` answers and leaves.
 -- Assumes nothing.
-use mathlib.Core.Path.{_≡_, ap₂, _∙_}
+use mathlib.Core.Path.{ap₂, _∙_}
 use denote.Ref.{now}
 use borrow.Author.Needs.{needs}
 use Rattle.contents.specs.Answers.{fileAnswer}

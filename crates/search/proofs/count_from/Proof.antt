@@ -1,10 +1,10 @@
 -- `search::count_from` meets its contract: the block is laid down, and its values are counted.
 -- Assumes nothing.
-use mathlib.Core.Path.{_≡_, refl, sym, ap, _∙_}
+use mathlib.Core.Path.{refl, sym, ap, _∙_}
 use Prim.Native.Nat.{_*_}
 use native.Mathlib.Nat.{zero-add}
 use denote.Ref.{now}
-use lib.ListN.{length, getD, replicate}
+use lib.ListN.{length, replicate}
 use borrow.Author.Needs.{needs}
 use Rattle.files.specs.Files.{blockIn}
 use Rattle.files.proofs.Froms.{from-block}

@@ -1,6 +1,6 @@
 -- `search::is_as_asked` meets its contract: what is asked of the body that begins at `at` is asked of block i.
 -- Assumes nothing.
-use mathlib.Core.Path.{_≡_, sym, ap, _∙_}
+use mathlib.Core.Path.{sym, ap, _∙_}
 use denote.Ref.{now}
 use borrow.Author.Needs.{needs}
 use Rattle.files.proofs.Froms.{good-from-is, true-from-is}

@@ -1,8 +1,6 @@
 -- `search::search` meets its contract: each refusal by its test, and the rows by what `list_rows` ensures.
 -- Assumes nothing.
-use mathlib.Core.Bool.{true, false}
-use mathlib.Core.Path.{_≡_, refl, sym, ap, ap₂, _∙_}
-use Prim.Native.Nat.{_≤_}
+use mathlib.Core.Path.{_≡_, sym, ap, ap₂, _∙_}
 use native.Mathlib.Omega.{arith}
 use denote.Ref.{now}
 use lib.ListN.{length}
@@ -12,8 +10,8 @@ use Rattle.contents.specs.declared.FileAnswer.the-variants.{Done, Room}
 use Rattle.contents.specs.Answers.{fileAnswer, numberOf}
 use Rattle.contents.specs.Contents.{contentsTests}
 use Rattle.contents.proofs.Answers.{number-done}
-use Rattle.search.specs.declared.Found.the-variants.{Rows, Refused}
-use Rattle.search.specs.Search.{opened, found, openedTests}
+use Rattle.search.specs.declared.Found.the-variants.{Rows}
+use Rattle.search.specs.Search.{found, openedTests}
 use Rattle.search.proofs.Answers.{opened-good, search-refused, search-done, search-nothing, contents-first, opened-second, no-room, room-there}
 use Rattle.search.proofs.search.Statement.{statement}
 use Rattle.search.proofs.search.Tie as tie
