@@ -1,5 +1,6 @@
 pub mod Calls
 pub mod Files
+pub mod Froms
 pub mod Others
 pub mod Ranges
 pub mod Reasons

@@ -3,7 +3,7 @@
 -- Assumes nothing.
 use mathlib.Core.Bool.{true}
 use mathlib.Core.List.{List, [], _∷_}
-use mathlib.Core.Path.{_≡_, sym, ap, ap₂, _∙_}
+use mathlib.Core.Path.{_≡_, sym, ap, _∙_}
 use Prim.Native.Nat.{ℕ, _<_}
 use native.Mathlib.Omega.{arith}
 use lib.ListN.{length, drop}
@@ -12,17 +12,16 @@ use Rattle.places.specs.Numbers.{Elements}
 use Rattle.places.specs.Pick.{pick}
 use Rattle.contents.specs.declared.FileAnswer.the-variants.{Done, Range}
 use Rattle.contents.specs.Answers.{good-runs, true-ranges, fileAnswer, numberOf}
-use Rattle.contents.specs.Contents.{edition, count, editionOr, entryOf, entryOr, rangeOf, rangeOr, bodyStart, contentsTests}
+use Rattle.contents.specs.Contents.{edition, count, editionOr, entryOf, rangeOf, bodyStart, contentsTests}
 use Rattle.contents.proofs.Accepted.{done-first, done-front}
 use Rattle.contents.proofs.Answers.{passed, stopped, none-left, in-front-done, in-front-refused}
 use Rattle.contents.proofs.First.{first-only, first-before}
-use Rattle.bodies.specs.Bodies as Bodies
 use Rattle.bodies.specs.Ranges.{isRange}
 use Rattle.bodies.proofs.Blocks.{a-block, take-elements, drop-elements}
 use Rattle.bodies.proofs.Ranges.{Spans, range-spans}
 use Rattle.files.specs.Files.{bodyOf, blockIn, hasTrueRange, badRuns, badRange, fileTests}
 use Rattle.files.specs.InnerRuns.{runsTests}
-use Rattle.files.proofs.Files.{goodIn, edition-read, entry-read, range-read, body-laid, block-left}
+use Rattle.files.proofs.Files.{goodIn, edition-read, body-laid}
 
 module _ (l : List ℕ) where
   -- contents that are right are right in front of whatever is tested behind them
@@ -58,17 +57,6 @@ module _ (l : List ℕ) where
 
   pub range-at : (p : ℕ) → p ≡ badRange l → (p ≡ count l → ⊥) → fileAnswer (true-ranges (badRange l) (count l) ∷ []) ≡ Range p
   range-at p found some = stopped _ _ (ne-eqb (badRange l) (count l) (λ e. some (found ∙ e))) ∙ ap Range (sym found)
-
-  -- In edition 2 the range of a block that was laid down is held to what was left of it.
-  pub range-tested : fileAnswer (runsTests l) ≡ Done → edition l ≡ 2 → (i : ℕ) → i < count l → (output : List ℕ) → length output ≡ 1024
-      → isRange (rangeOr l i) (Bodies.blockLeaves (entryOr l i) (bodyOf l i) output) ≡ hasTrueRange l i
-  unfolding hasTrueRange
-  range-tested done second i h output e =
-      let right = contents-right done in
-      let there = ap (λ t. pick t (blockIn l i) output) (runs-good done i h) in
-      ap₂ isRange (range-read l right i h)
-      (ap (λ e. Bodies.blockLeaves e (bodyOf l i) output) (entry-read l right i h) ∙ block-left l right i h output e ∙ there)
-      ∙ sym (ap (λ t. pick t (isRange (rangeOf l i) (blockIn l i)) true) (eq-eqb (edition l) 2 second))
 
   -- A block of another edition than 2 has no range to test,
   no-ranges : (edition l ≡ 2 → ⊥) → badRange l ≡ count l

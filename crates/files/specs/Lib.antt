@@ -1,4 +1,5 @@
 pub mod Files
+pub mod Froms
 pub mod InnerRuns
 pub mod Plain
 pub mod Rows

@@ -25,6 +25,7 @@ ghost use Rattle.contents.specs.Contents.{edition as editionIn, count as countI
 ghost use Rattle.contents.specs.First.{firstBad};
 ghost use Rattle.bodies.specs.Bodies.{hasGoodRuns};
 ghost use Rattle.files.specs.Files.{bodyOf, blockIn, hasTrueRange, badRange, fileTests, blockTests, blockLeaves};
+ghost use Rattle.files.specs.Froms.{bodyFrom, goodFrom, fromTests, fromLeaves, trueFrom};
 ghost use Rattle.files.specs.InnerRuns.{runsTests};
 ghost use Rattle.files.specs.Rows.{answerOf, valueOf, wordsOf, wordsIn, rowOf};
 
@@ -66,7 +67,7 @@ fn false_range(file: &[u8]) -> usize
     let mut at = contents_length(file);
     let mut i = 0;
     while i < n {
-        if !has_true_range(file, i, at) {
+        if !is_true_from(file, i, at) {
             return i;
         }
         let e = entry_or(file, i);
@@ -74,19 +75,6 @@ fn false_range(file: &[u8]) -> usize
         i += 1;
     }
     n
-}
-
-// Whether the range of block i, whose body begins at `at`, is the true one, in an edition 2 file that is right up to its run indices.
-fn has_true_range(file: &[u8], i: usize, at: usize) -> bool
-    requires { ⌜ fileAnswer (runsTests (now file)) ≡ Done ⌝ }
-    requires { ⌜ editionIn (now file) ≡ 2 ⌝ }
-    requires { ⌜ i < countIn (now file) ⌝ }
-    requires { ⌜ at ≡ bodyStart (now file) i ⌝ }
-    ensures { λ r. ⌜ r ≡ hasTrueRange (now (file .entry)) i ⌝ }
-{
-    let mut block = [0u64; 1024];
-    bodies::block_of(entry_or(file, i), body(file, i, at), &mut block);
-    is_range(range_or(file, i), &block)
 }
 
 // Checks the file up to the run indices. No block has the count for its number, so none is left out.
@@ -113,7 +101,7 @@ fn check_but(file: &[u8], b: usize) -> FileAnswer
         return FileAnswer::Done;
     }
     if b < bad {
-        if !is_good(file, b, body_start(file, b)) {
+        if !is_good_from(file, b, body_start(file, b)) {
             return FileAnswer::Runs(b);
         }
     }
@@ -131,7 +119,7 @@ fn first_bad_but(file: &[u8], b: usize) -> usize
     let mut i = 0;
     while i < n {
         if i != b {
-            if !is_good(file, i, at) {
+            if !is_good_from(file, i, at) {
                 return i;
             }
         }
@@ -142,26 +130,44 @@ fn first_bad_but(file: &[u8], b: usize) -> usize
     n
 }
 
-// Whether body i, which begins at `at`, has its run indices in range, in a file whose contents are right.
-fn is_good(file: &[u8], i: usize, at: usize) -> bool
-    requires { ⌜ fileAnswer (contentsTests (now file) (length (now file))) ≡ Done ⌝ }
-    requires { ⌜ i < countIn (now file) ⌝ }
-    requires { ⌜ at ≡ bodyStart (now file) i ⌝ }
-    ensures { λ r. ⌜ r ≡ hasGoodRuns (entryOf (now (file .entry)) i) (bodyOf (now (file .entry)) i) ⌝ }
-{
-    bodies::check(entry_or(file, i), body(file, i, at)).number() == 0
-}
-
-// Body i, which begins at `at`, of a file whose contents are right.
-fn body(file: &[u8], i: usize, at: usize) -> &[u8]
-    requires { ⌜ fileAnswer (contentsTests (now file) (length (now file))) ≡ Done ⌝ }
-    requires { ⌜ i < countIn (now file) ⌝ }
-    requires { ⌜ at ≡ bodyStart (now file) i ⌝ }
-    ensures { λ r. ⌜ now r ≡ bodyOf (now (file .entry)) i ⌝ }
+// The body that begins at `at` and is as long as entry i says; no bytes where it does not all stand in the file.
+pub fn body_from(file: &[u8], i: usize, at: usize) -> &[u8]
+    ensures { λ r. ⌜ now r ≡ bodyFrom (now (file .entry)) i at ⌝ }
 {
     let e = entry_or(file, i);
-    let end = at + e.length as usize;
+    let size = e.length as usize;
+    if file.len() < size {
+        return &file[..0];
+    }
+    if file.len() - size < at {
+        return &file[..0];
+    }
+    let end = at + size;
     &file[at..end]
+}
+
+// Whether the body that begins at `at` is as entry i says. Where the contents of the file are right, only its run indices can be wrong.
+pub fn is_good_from(file: &[u8], i: usize, at: usize) -> bool
+    ensures { λ r. ⌜ r ≡ goodFrom (now (file .entry)) i at ⌝ }
+{
+    bodies::check(entry_or(file, i), body_from(file, i, at)).number() == 0
+}
+
+// Lays down the block of entry i and of the body that begins at `at`.
+pub fn block_from(file: &[u8], i: usize, at: usize, output: &mut [u64]) -> FileAnswer
+    ensures { λ r. ⌜ r ≡ fileAnswer (fromTests (now (file .entry)) i at (now (output .entry))) ⌝ }
+    ensures { λ _. ⌜ now (output .exit) ≡ fromLeaves (now (file .entry)) i at (now (output .entry)) ⌝ }
+{
+    bodies::block_of(entry_or(file, i), body_from(file, i, at), output)
+}
+
+// Whether that block has the range that entry i says.
+pub fn is_true_from(file: &[u8], i: usize, at: usize) -> bool
+    ensures { λ r. ⌜ r ≡ trueFrom (now (file .entry)) i at ⌝ }
+{
+    let mut block = [0u64; 1024];
+    block_from(file, i, at, &mut block);
+    is_range(range_or(file, i), &block)
 }
 
 // Where body b begins, in a file whose contents are right.
@@ -221,7 +227,7 @@ fn lay_down(file: &[u8], b: usize, output: &mut [u64]) -> FileAnswer
     ensures { λ _. ⌜ now (output .exit) ≡ pick (hasGoodRuns (entryOf (now (file .entry)) b) (bodyOf (now (file .entry)) b)) (blockIn (now (file .entry)) b) (now (output .entry)) ⌝ }
 {
     let at = body_start(file, b);
-    let answer = bodies::block_of(entry_or(file, b), body(file, b, at), output);
+    let answer = block_from(file, b, at, output);
     if answer.number() != 0 {
         return FileAnswer::Runs(b);
     }

@@ -13,8 +13,9 @@ use Rattle.contents.specs.Answers.{good-runs, fileAnswer, numberOf}
 use Rattle.contents.specs.Contents.{count, contentsTests}
 use Rattle.contents.proofs.Answers.{in-front-refused, number-done}
 use Rattle.files.specs.Files.{badRuns}
-use Rattle.files.proofs.Files.{count-read}
+use Rattle.files.proofs.Files.{goodIn, count-read}
 use Rattle.files.proofs.Others.{but-le, other-bad, asked-bad}
+use Rattle.files.proofs.Froms.{good-from-is}
 use Rattle.files.proofs.check_but.Statement.{statement}
 use Rattle.files.proofs.check_but.Tie as tie
 
@@ -66,17 +67,24 @@ body-start-requires c κs =
     let right = c .before .before .before .before in
     (contents-done right, omega (arith, bad-below (c .before), c .if3 .taken))
 
-is-good-requires : tie.Need-is-good-requires
-is-good-requires c κs =
-    let right = c .before .before .before .before .before in
-    (contents-done right, (omega (arith, bad-below (c .before .before), c .before .if3 .taken), c .body-start .ensures))
+is-good-from-requires : tie.Need-is-good-from-requires
+is-good-from-requires c κs = search needs
+
+-- what was asked of the body that begins where body b does is asked of block b
+tested-is : (c : tie.After-is-good-from) → c .is-good-from .result ≡ goodIn (now (c .before .before .before .before .before .before .before .before .before .before .args .file)) (c .before .before .before .before .before .before .before .before .before .before .args .b)
+tested-is c =
+    let begun = c .before in
+    let right = begun .before .before .before .before .before in
+    let start = right .before .before .before .before in
+    c .is-good-from .ensures
+    ∙ good-from-is (now (start .args .file)) (contents-done right) (start .args .b) (omega (arith, bad-below (begun .before .before), begun .before .if3 .taken)) _ (begun .body-start .ensures)
 
 returns-3 : tie.Need-returns-3
 returns-3 c =
     let later = c .before .before .before in
     let found = later .before .before .before in
     let start = found .before .before .before .before .before in
-    let worse = sym (c .before .is-good .ensures) ∙ not-true _ (c .if4 .taken) in
+    let worse = sym (tested-is (c .before)) ∙ not-true _ (c .if4 .taken) in
     let below = bad-below (later .before) in (
       (λ _. sym (asked-bad (now (start .args .file)) (contents-done (found .before)) (start .args .b) _ (found .first-bad-but .ensures) (omega arith) (omega arith) worse)),
       ((λ z. absurd (omega arith)), (λ z. absurd (omega arith))),
@@ -87,7 +95,7 @@ returns-4 c =
     let other = c .before .before .before .before in
     let found = other .before .before in
     let start = found .before .before .before .before .before in
-    let good = sym (c .before .is-good .ensures) ∙ not-false _ (c .if4 .left) in (
+    let good = sym (tested-is (c .before)) ∙ not-false _ (c .if4 .left) in (
       (λ _. sym (other-bad (now (start .args .file)) (contents-done (found .before)) (start .args .b) _ (found .first-bad-but .ensures) (bad-below other) (λ _. good))),
       ((λ z. absurd (omega arith)), (λ z. absurd (omega arith))),
     )
@@ -111,7 +119,7 @@ check-but-spec =
     count-requires
     returns-2
     body-start-requires
-    is-good-requires
+    is-good-from-requires
     returns-3
     returns-4
     returns-5)

@@ -16,7 +16,8 @@ use Rattle.contents.specs.Contents.{count, entryOf, bodyStart, contentsTests}
 use Rattle.contents.proofs.First.{first-only}
 use Rattle.files.specs.Files.{hasTrueRange, badRange}
 use Rattle.files.proofs.Files.{count-read, length-read, entry-read, body-ends, next-start}
-use Rattle.files.proofs.Ranges.{contents-right}
+use Rattle.files.proofs.Froms.{true-from-is}
+use Rattle.files.proofs.Ranges.{contents-right, runs-good}
 use Rattle.files.proofs.false_range.Statement.{statement}
 use Rattle.files.proofs.false_range.Tie as tie
 
@@ -38,6 +39,17 @@ entry-is c =
     let start = at-loop .before .before .before .before in
     c .entry-or .ensures ∙ entry-read (now (start .args .file)) (right start) (at-loop .loop .i) (omega arith)
 
+-- what was asked of the body that begins at `at` is asked of block i
+tested-is : (c : tie.After-is-true-from Inv-loop μ-loop) → c .is-true-from .result ≡ hasTrueRange (now (c .before .before .before .before .before .before .args .file)) (c .before .before .loop .i)
+tested-is c =
+    let at-loop = c .before .before in
+    let start = at-loop .before .before .before .before in
+    let l = now (start .args .file) in
+    let i = at-loop .loop .i in
+    let there : i < count l = omega arith in
+    c .is-true-from .ensures
+    ∙ true-from-is l (right start) i there (at-loop .loop .at) (at-loop .loop .inv .2) (start .pre .1) (runs-good l (start .pre .0) i there)
+
 count-requires : tie.Need-count-requires Inv-loop μ-loop
 count-requires c κs = search needs
 
@@ -50,11 +62,8 @@ loop-holds c =
     let l = now (start .args .file) in
     (zero-le, c .before .count .ensures ∙ count-read l (right start), c .contents-length .ensures ∙ length-read l (right start), below-none _)
 
-has-true-range-requires : tie.Need-has-true-range-requires Inv-loop μ-loop
-has-true-range-requires c κs =
-    let at-loop = c .before in
-    let start = at-loop .before .before .before .before in
-    (start .pre .0, (start .pre .1, (omega arith, at-loop .loop .inv .2)))
+is-true-from-requires : tie.Need-is-true-from-requires Inv-loop μ-loop
+is-true-from-requires c κs = search needs
 
 returns : tie.Need-returns Inv-loop μ-loop
 unfolding badRange
@@ -63,7 +72,7 @@ returns c =
     let at-loop = tested .before .before in
     let l = now (at-loop .before .before .before .before .args .file) in
     first-only (count l) (at-loop .loop .i) (hasTrueRange l) (omega arith) (at-loop .loop .inv .3)
-    (λ _. sym (tested .has-true-range .ensures) ∙ not-true _ (c .if1 .taken))
+    (λ _. sym (tested-is tested) ∙ not-true _ (c .if1 .taken))
 
 entry-or-requires : tie.Need-entry-or-requires Inv-loop μ-loop
 entry-or-requires c κs = search needs
@@ -95,7 +104,7 @@ loop-again c =
       omega arith,
       at-loop .loop .inv .1,
       ap₂ _+_ (at-loop .loop .inv .2) (ap (λ e. e .length) (entry-is got)) ∙ sym (ap (bodyStart l) (add-one i) ∙ next-start l (right start) i),
-      below-more _ _ (at-loop .loop .inv .3) (sym (passed .before .has-true-range .ensures) ∙ not-false _ (passed .if1 .left)),
+      below-more _ _ (at-loop .loop .inv .3) (sym (tested-is (passed .before)) ∙ not-false _ (passed .if1 .left)),
     )
 
 returns-2 : tie.Need-returns-2 Inv-loop μ-loop
@@ -116,7 +125,7 @@ false-range-spec =
     count-requires
     contents-length-requires
     loop-holds
-    has-true-range-requires
+    is-true-from-requires
     returns
     entry-or-requires
     cast-at

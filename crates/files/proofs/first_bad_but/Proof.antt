@@ -16,6 +16,7 @@ use Rattle.places.specs.Pick.{either}
 use Rattle.contents.specs.Contents.{count, entryOf, bodyStart}
 use Rattle.contents.proofs.First.{first-only}
 use Rattle.files.proofs.Files.{goodIn, count-read, length-read, entry-read, body-ends, next-start}
+use Rattle.files.proofs.Froms.{good-from-is}
 use Rattle.files.proofs.first_bad_but.Statement.{statement}
 use Rattle.files.proofs.first_bad_but.Tie as tie
 
@@ -33,6 +34,14 @@ entry-is c =
     let start = at-loop .before .before .before .before in
     c .entry-or .ensures ∙ entry-read (now (start .args .file)) (start .pre) (at-loop .loop .i) (omega arith)
 
+-- what was asked of the body that begins at `at` is asked of block i
+tested-is : (c : tie.After-is-good-from Inv-loop μ-loop) → c .is-good-from .result ≡ goodIn (now (c .before .before .before .before .before .before .before .args .file)) (c .before .before .before .loop .i)
+tested-is c =
+    let at-loop = c .before .before .before in
+    let start = at-loop .before .before .before .before in
+    c .is-good-from .ensures
+    ∙ good-from-is (now (start .args .file)) (start .pre) (at-loop .loop .i) (omega arith) (at-loop .loop .at) (at-loop .loop .inv .2)
+
 -- block i is block b, or its body was found good
 passed-over : (c : tie.Joined1 Inv-loop μ-loop) → either (eqb (c .before .before .loop .i) (c .before .before .before .before .before .before .args .b)) (goodIn (now (c .before .before .before .before .before .before .args .file)) (c .before .before .loop .i)) ≡ true
 passed-over c =
@@ -41,7 +50,7 @@ passed-over c =
     let i = at-loop .loop .i in
     let good = goodIn (now (start .args .file)) i in
     ⊎-elim
-    (λ w. ap (λ t. either t good) (ne-eqb i (start .args .b) (w .0 .taken)) ∙ sym (w .1 .ensures) ∙ not-false _ (w .2 .left))
+    (λ w. ap (λ t. either t good) (ne-eqb i (start .args .b) (w .0 .taken)) ∙ sym (tested-is (record { before = record { before = c .before; if1 = w .0 }; is-good-from = w .1 })) ∙ not-false _ (w .2 .left))
     (λ w. ap (λ t. either t good) (eq-eqb i (start .args .b) (w .left)))
     (c .if1 .came)
 
@@ -57,10 +66,8 @@ loop-holds c =
     let l = now (start .args .file) in
     (zero-le, c .before .count .ensures ∙ count-read l (start .pre), c .contents-length .ensures ∙ length-read l (start .pre), below-none _)
 
-is-good-requires : tie.Need-is-good-requires Inv-loop μ-loop
-is-good-requires c κs =
-    let at-loop = c .before .before in
-    (at-loop .before .before .before .before .pre, (omega arith, at-loop .loop .inv .2))
+is-good-from-requires : tie.Need-is-good-from-requires Inv-loop μ-loop
+is-good-from-requires c κs = search needs
 
 returns : tie.Need-returns Inv-loop μ-loop
 returns c =
@@ -71,7 +78,7 @@ returns c =
     let b = start .args .b in
     let i = at-loop .loop .i in
     first-only (count l) i (λ k. either (eqb k b) (goodIn l k)) (omega arith) (at-loop .loop .inv .3)
-    (λ _. ap (λ t. either t (goodIn l i)) (ne-eqb i b (tested .before .if1 .taken)) ∙ sym (tested .is-good .ensures) ∙ not-true _ (c .if2 .taken))
+    (λ _. ap (λ t. either t (goodIn l i)) (ne-eqb i b (tested .before .if1 .taken)) ∙ sym (tested-is tested) ∙ not-true _ (c .if2 .taken))
 
 entry-or-requires : tie.Need-entry-or-requires Inv-loop μ-loop
 entry-or-requires c κs = search needs
@@ -124,7 +131,7 @@ first-bad-but-spec =
     count-requires
     contents-length-requires
     loop-holds
-    is-good-requires
+    is-good-from-requires
     returns
     entry-or-requires
     cast-at
