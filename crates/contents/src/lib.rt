@@ -227,7 +227,7 @@ pub fn no_entry() -> Entry
 }
 
 // The range from 0 to the highest number, which stands for one that is not there.
-fn any_range() -> Range
+pub fn any_range() -> Range
     ensures { λ r. ⌜ r ≡ anyRange ⌝ }
 {
     Range {
