@@ -71,10 +71,10 @@ module _ (values : List ℕ) (n : ℕ) (whole : length values ≡ n * 1024) (few
   length-is : length file ≡ contentsSize 2 n + length (bodiesFor values n)
   length-is = length-file values ∙ ap (λ k. contentsSize 2 k + length (bodiesFor values k)) blocks
 
-  edition-is : edition file ≡ 2
+  pub edition-is : edition file ≡ 2
   edition-is = ap edition head-first ∙ head-edition n (entriesFor values n ++ bodiesFor values n)
 
-  count-is : count file ≡ n
+  pub count-is : count file ≡ n
   count-is = ap count head-first ∙ head-count n (entriesFor values n ++ bodiesFor values n) (omega arith)
 
   -- Entry i stands behind the entries in front of it,
