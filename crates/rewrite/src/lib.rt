@@ -1,6 +1,7 @@
-// A readable column file, of either edition and of any kinds, is rewritten as the writer would write its rows (document 02, Item 11).
-// Beside the file and the output there is room for one block: each block is laid down from the file, and then measured or written. The new file's
-// length is known before the first byte is written, so a refused call writes nothing. For that each block is laid down twice.
+// A readable column file, of either edition and of any kinds, is rewritten as the writer would write its rows (document 02, Item
+// 11). Beside the file and the output there is room for one block: each block is laid down from the file, and then measured or
+// written. The new file's length is known before the first byte is written, so a refused call writes nothing. For that each
+// block is laid down twice.
 use candidates::entry_for;
 use candidates::lay_block;
 use contents::FileAnswer;
@@ -103,8 +104,8 @@ fn lay_blocks(file: &[u8], output: &mut [u8])
     }
 }
 
-// Writes the new body of block i, whose old one begins at `from`, from place `at` on, and its entry with its range, and gives the length of the
-// new body. There is room, so the body is not refused.
+// Writes the new body of block i, whose old one begins at `from`, from place `at` on, and its entry with its range, and gives
+// the length of the new body. There is room, so the body is not refused.
 fn lay_one(file: &[u8], i: usize, from: usize, at: usize, output: &mut [u8]) -> usize
     requires { ⌜ fileAnswer (fileTests (now file)) ≡ Done ⌝ }
     requires { ⌜ i < countIn (now file) ⌝ }
