@@ -96,6 +96,10 @@ module _ (l output : List ℕ) where
     pub rewrite-behind : drop (length (newFile l)) (rewriteLeaves l output) ≡ drop (length (newFile l)) output
     rewrite-behind = ap (drop (length (newFile l))) over-new ∙ over-rest (newFile l) output
 
+    -- A file that is its own new file is left at the front as it is.
+    pub rewrite-keeps : newFile l ≡ l → take (length l) (rewriteLeaves l output) ≡ l
+    rewrite-keeps same = subst (λ f. take (length f) (rewriteLeaves l output) ≡ f) same rewrite-front
+
   -- Of an accepted file the outcome is that of a write of its rows.
   pub rewrite-writes : fileAnswer (fileTests l) ≡ Done
       → (rewrittenOf l output ≡ writtenOf (rowsOf l) output) × (rewriteLeaves l output ≡ fileLeaves (rowsOf l) output)
@@ -115,7 +119,7 @@ module _ (l output : List ℕ) where
                 ∙ sym (blocks-short (rowsOf l) output (Item3.remainder-none (rowsOf l) whole) (Item3.numbers-few (rowsOf l) whole) (omega arith))
           ]
 
--- A file that the writer wrote is rewritten as it is, byte for byte.
+-- A file that the writer wrote is its own new file: it is rewritten as it is, byte for byte.
 pub rewrite-same : (values : List ℕ) → Blocks values → Elements t64 values → newFile (fileOf values) ≡ fileOf values
 rewrite-same values b fits = ap fileOf (rows-read values (b .n) (b .whole) (b .few) fits)
 
@@ -146,7 +150,7 @@ module _ (l : List ℕ) (bytes : Elements 8 l) (done : fileAnswer (fileTests l) 
   pub new-kind : (i : ℕ) → i < count l → entryOf (newFile l) i .kind ≤ 2
   new-kind i h = subst (λ e. e .kind ≤ 2) (sym (new-entry i h)) (chosen-kind (blockIn l i))
 
-  -- and to rewrite twice is to rewrite once.
+  -- and it is its own new file: to rewrite twice is to rewrite once.
   pub rewrite-twice : newFile (newFile l) ≡ newFile l
   rewrite-twice = ap fileOf new-rows
 
