@@ -262,6 +262,13 @@ module _ (l : List ℕ) where
     (λ r. reason-gives r),
   )
 
+  -- In edition 2 no block has runs, so that 13 is never given.
+  pub second-runs : edition l ≡ 2 → (p : ℕ) → fileAnswer (fileTests l) ≡ Runs p → ⊥
+  second-runs second p e = go (file-exactly (Runs p) .0 e)
+    where
+      go : Reason l (Runs p) → ⊥
+      go (bad-runs p r h bad before) = bad (λ k. absurd (omega (arith, r .entries p h .1 .0 second)))
+
   -- ---- one block out, and the lookup of a row
 
   -- a file that is refused is refused in front of the last test, and a file that is right leaves it to that test
