@@ -260,6 +260,17 @@ module _ (t w : ℕ) (packed indices output : List ℕ) (budget : ℕ) where
   within-words = says-number (Front k (frontWords t w indices k)) Refused wordsOf 0 (λ _. refl) answer
 
   module _ (done : answerFor (listTakes t w packed indices output) ≡ Done) where
+    -- The remaining outputs are unchanged.
+    pub within-rest : drop (affordable t w indices budget) (withinLeaves t w packed indices output budget) ≡ drop (affordable t w indices budget) output
+    unfolding withinLeaves k
+    within-rest =
+        let x = listOf t w packed (take k indices) in
+        let n : length x ≡ k = list-long t w packed (take k indices) ∙ length-take-le k indices (affordable-part t w indices budget) in
+        ap (λ a. drop k (left a (over 0 x output) output)) done
+        ∙ ap (λ m. drop m (over 0 x output)) (sym n)
+        ∙ over-rest x output
+        ∙ ap (λ m. drop m output) n
+
     -- With all answered the outputs are those of the call without a budget, and for a budget of 64 bits, as every budget is, the sum is its sum.
     pub within-all : affordable t w indices budget ≡ length indices → budget < 2 ^ 64
         → (withinLeaves t w packed indices output budget ≡ listLeaves t w packed indices output)
@@ -298,14 +309,3 @@ module _ (t w : ℕ) (packed indices output : List ℕ) (budget : ℕ) where
               ∙ sym (ap (λ a. left a x (take k output)) front),
           λ small. words ∙ sym (list-held t w (take k indices) .0 (omega (arith, words, affordable-within t w indices budget))),
         )
-
-    -- The remaining outputs are unchanged.
-    pub within-rest : drop (affordable t w indices budget) (withinLeaves t w packed indices output budget) ≡ drop (affordable t w indices budget) output
-    unfolding withinLeaves k
-    within-rest =
-        let x = listOf t w packed (take k indices) in
-        let n : length x ≡ k = list-long t w packed (take k indices) ∙ length-take-le k indices (affordable-part t w indices budget) in
-        ap (λ a. drop k (left a (over 0 x output) output)) done
-        ∙ ap (λ m. drop m (over 0 x output)) (sym n)
-        ∙ over-rest x output
-        ∙ ap (λ m. drop m output) n

@@ -1,0 +1,5 @@
+pub mod Answers
+pub mod Blocks
+pub mod Listing
+pub mod Passing
+pub mod Walks

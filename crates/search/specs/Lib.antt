@@ -1,0 +1,3 @@
+pub mod InnerBlocks
+pub mod Passing
+pub mod Search

@@ -1,0 +1,328 @@
+// The search of a column file by value (document 02, Item 9): it lists, rising, the rows whose value lies between two bounds,
+// both included. A block is opened exactly when the range that its entry says and the bounds have a number in common, or the
+// edition is 1; of a block that is not opened no byte of the body is read.
+//
+// Whether there is room is known before the first row is written, so a refused search writes nothing. Where the room would do
+// for every row of the opened blocks, nothing is counted for that, and each of them is laid down once for its rows.
+use contents::FileAnswer;
+use contents::Range;
+use contents::contents_length;
+use contents::count;
+use contents::edition;
+use contents::entry_or;
+use contents::range_or;
+use files::block_from;
+use files::is_good_from;
+use files::is_true_from;
+ghost use mathlib.Core.Path.{_≡_};
+ghost use Prim.Native.Nat.{_+_, _*_, _≤_, _<_};
+ghost use lib.Dec.{leb};
+ghost use lib.ListN.{length};
+ghost use Rattle.places.specs.Tab.{over};
+ghost use Rattle.contents.specs.declared.FileAnswer.the-variants.{Done};
+ghost use Rattle.contents.specs.Answers.{fileAnswer};
+ghost use Rattle.contents.specs.Contents.{edition as editionIn, count as countIn, bodyStart, contentsTests};
+ghost use mathlib.Core.Bool.{true, false};
+ghost use Rattle.files.specs.Files.{blockIn};
+ghost use Rattle.search.specs.Search.{between, meets as meetsIn, opens as opensIn, opened, found, openedTests, foundOf, searchLeaves, answerOf, rowsFound, blocksOpened};
+ghost use Rattle.search.specs.InnerBlocks.{asked, badIn, foundIn};
+
+// How many rows were listed and how many blocks were opened for them, or the refusal.
+pub enum Found {
+    Rows(usize, usize),
+    Refused(FileAnswer),
+}
+
+impl Found {
+    // The answer in the terms of the other calls.
+    pub fn answer(self) -> FileAnswer
+        ensures { λ r. ⌜ r ≡ answerOf self ⌝ }
+    {
+        match self {
+            Found::Rows(_, _) => FileAnswer::Done,
+            Found::Refused(a) => a,
+        }
+    }
+
+    // How many rows; 0 after a refusal.
+    pub fn rows(self) -> usize
+        ensures { λ r. ⌜ r ≡ rowsFound self ⌝ }
+    {
+        match self {
+            Found::Rows(n, _) => n,
+            Found::Refused(_) => 0,
+        }
+    }
+
+    // How many blocks were opened; 0 after a refusal.
+    pub fn opened(self) -> usize
+        ensures { λ r. ⌜ r ≡ blocksOpened self ⌝ }
+    {
+        match self {
+            Found::Rows(_, k) => k,
+            Found::Refused(_) => 0,
+        }
+    }
+}
+
+// Lists the rows of the file whose value lies between the bounds.
+pub fn search(file: &[u8], low: u64, high: u64, rows: &mut [u64]) -> Found
+    ensures { λ r. ⌜ r ≡ foundOf (now (file .entry)) low high (now (rows .entry)) ⌝ }
+    ensures { λ _. ⌜ now (rows .exit) ≡ searchLeaves (now (file .entry)) low high (now (rows .entry)) ⌝ }
+{
+    let answer = contents::check(file, file.len());
+    if answer.number() != 0 {
+        return Found::Refused(answer);
+    }
+    let k = count_opened(file, low, high);
+    if k == 0 {
+        return Found::Rows(0, 0);
+    }
+    let answer = check_opened(file, low, high);
+    if answer.number() != 0 {
+        return Found::Refused(answer);
+    }
+    if !has_room(file, low, high, k, rows.len()) {
+        return Found::Refused(FileAnswer::Room);
+    }
+    let n = list_rows(file, low, high, rows);
+    Found::Rows(n, k)
+}
+
+// Whether a range and the bounds have a number in common.
+fn meets(r: Range, low: u64, high: u64) -> bool
+    ensures { λ b. ⌜ b ≡ meetsIn r low high ⌝ }
+{
+    let from = if r.smallest < low { low } else { r.smallest };
+    let to = if high < r.largest { high } else { r.largest };
+    from <= to
+}
+
+// Whether a value lies between the bounds. The two tests are joined by `&`, which makes no branch.
+fn lies(v: u64, low: u64, high: u64) -> bool
+    ensures { λ b. ⌜ b ≡ between low high v ⌝ }
+{
+    (low <= v) & (v <= high)
+}
+
+// Whether block i is opened, in a file whose contents are right.
+fn opens(file: &[u8], i: usize, low: u64, high: u64) -> bool
+    requires { ⌜ fileAnswer (contentsTests (now file) (length (now file))) ≡ Done ⌝ }
+    requires { ⌜ i < countIn (now file) ⌝ }
+    ensures { λ r. ⌜ r ≡ opensIn (now (file .entry)) low high i ⌝ }
+{
+    if edition(file) == 1 {
+        return true;
+    }
+    meets(range_or(file, i), low, high)
+}
+
+// Where the next body begins, in a file whose contents are right and whose body i begins at `at`.
+fn next_start(file: &[u8], i: usize, at: usize) -> usize
+    requires { ⌜ fileAnswer (contentsTests (now file) (length (now file))) ≡ Done ⌝ }
+    requires { ⌜ i < countIn (now file) ⌝ }
+    requires { ⌜ at ≡ bodyStart (now file) i ⌝ }
+    ensures { λ r. ⌜ r ≡ bodyStart (now (file .entry)) (i + 1) ⌝ }
+{
+    let e = entry_or(file, i);
+    at + e.length as usize
+}
+
+// How many blocks are opened, in a file whose contents are right.
+fn count_opened(file: &[u8], low: u64, high: u64) -> usize
+    requires { ⌜ fileAnswer (contentsTests (now file) (length (now file))) ≡ Done ⌝ }
+    ensures { λ r. ⌜ r ≡ length (opened (now (file .entry)) low high) ⌝ }
+{
+    let n = count(file);
+    let mut k = 0;
+    let mut i = 0;
+    while i < n {
+        if opens(file, i, low, high) {
+            k += 1;
+        }
+        i += 1;
+    }
+    k
+}
+
+// Checks the blocks that are opened, in a file whose contents are right: the run indices of all, and then the ranges. A file of
+// edition 1 says no ranges.
+fn check_opened(file: &[u8], low: u64, high: u64) -> FileAnswer
+    requires { ⌜ fileAnswer (contentsTests (now file) (length (now file))) ≡ Done ⌝ }
+    ensures { λ r. ⌜ r ≡ fileAnswer (openedTests (now (file .entry)) low high) ⌝ }
+{
+    let n = count(file);
+    let bad = lowest_bad(file, low, high, false);
+    if bad < n {
+        return FileAnswer::Runs(bad);
+    }
+    if edition(file) == 1 {
+        return FileAnswer::Done;
+    }
+    let other = lowest_bad(file, low, high, true);
+    if other < n {
+        return FileAnswer::Range(other);
+    }
+    FileAnswer::Done
+}
+
+// The lowest opened block that is not as asked, and the count where there is none, in a file whose contents are right. The ranges
+// are asked for in edition 2, where the opened blocks have their run indices in range.
+fn lowest_bad(file: &[u8], low: u64, high: u64, ranges: bool) -> usize
+    requires { ⌜ fileAnswer (contentsTests (now file) (length (now file))) ≡ Done ⌝ }
+    requires { ⌜ (ranges ≡ true → (editionIn (now file) ≡ 2) × (badIn (now file) low high false ≡ countIn (now file))) ⌝ }
+    ensures { λ r. ⌜ r ≡ badIn (now (file .entry)) low high ranges ⌝ }
+{
+    let n = count(file);
+    let mut at = contents_length(file);
+    let mut i = 0;
+    while i < n {
+        if opens(file, i, low, high) {
+            if !is_as_asked(file, i, at, ranges) {
+                return i;
+            }
+        }
+        at = next_start(file, i, at);
+        i += 1;
+    }
+    n
+}
+
+// Whether block i, whose body begins at `at`, is as asked: has the range that its entry says, or its run indices in range.
+fn is_as_asked(file: &[u8], i: usize, at: usize, ranges: bool) -> bool
+    requires { ⌜ fileAnswer (contentsTests (now file) (length (now file))) ≡ Done ⌝ }
+    requires { ⌜ i < countIn (now file) ⌝ }
+    requires { ⌜ at ≡ bodyStart (now file) i ⌝ }
+    requires { ⌜ (ranges ≡ true → (editionIn (now file) ≡ 2) × (asked (now file) false i ≡ true)) ⌝ }
+    ensures { λ r. ⌜ r ≡ asked (now (file .entry)) ranges i ⌝ }
+{
+    if ranges {
+        return is_true_from(file, i, at);
+    }
+    is_good_from(file, i, at)
+}
+
+// Whether there is room for the rows. The k opened blocks have at most 1,024 rows each, and where that many fit nothing is counted.
+fn has_room(file: &[u8], low: u64, high: u64, k: usize, room: usize) -> bool
+    requires { ⌜ fileAnswer (contentsTests (now file) (length (now file))) ≡ Done ⌝ }
+    requires { ⌜ badIn (now file) low high false ≡ countIn (now file) ⌝ }
+    requires { ⌜ k ≡ length (opened (now file) low high) ⌝ }
+    ensures { λ r. ⌜ r ≡ leb (length (found (now (file .entry)) low high)) room ⌝ }
+{
+    if k * 1024 <= room {
+        return true;
+    }
+    count_rows(file, low, high) <= room
+}
+
+// How many rows are listed, in a file whose contents are right and whose opened blocks have their run indices in range.
+fn count_rows(file: &[u8], low: u64, high: u64) -> usize
+    requires { ⌜ fileAnswer (contentsTests (now file) (length (now file))) ≡ Done ⌝ }
+    requires { ⌜ badIn (now file) low high false ≡ countIn (now file) ⌝ }
+    ensures { λ r. ⌜ r ≡ length (found (now (file .entry)) low high) ⌝ }
+{
+    let n = count(file);
+    let mut at = contents_length(file);
+    let mut sum = 0;
+    let mut i = 0;
+    while i < n {
+        if opens(file, i, low, high) {
+            sum += count_from(file, i, at, low, high);
+        }
+        at = next_start(file, i, at);
+        i += 1;
+    }
+    sum
+}
+
+// Lists the rows at the front of the room, where there is room for all of them, and gives how many they are.
+fn list_rows(file: &[u8], low: u64, high: u64, rows: &mut [u64]) -> usize
+    requires { ⌜ fileAnswer (contentsTests (now file) (length (now file))) ≡ Done ⌝ }
+    requires { ⌜ badIn (now file) low high false ≡ countIn (now file) ⌝ }
+    requires { ⌜ length (found (now file) low high) ≤ length (now rows) ⌝ }
+    ensures { λ r. ⌜ r ≡ length (found (now (file .entry)) low high) ⌝ }
+    ensures { λ _. ⌜ now (rows .exit) ≡ over 0 (found (now (file .entry)) low high) (now (rows .entry)) ⌝ }
+{
+    let n = count(file);
+    let mut at = contents_length(file);
+    let mut k = 0;
+    let mut i = 0;
+    while i < n {
+        if opens(file, i, low, high) {
+            k = list_from(file, i, at, low, high, k, rows);
+        }
+        at = next_start(file, i, at);
+        i += 1;
+    }
+    k
+}
+
+// How many rows are found in block i, whose body begins at `at`.
+fn count_from(file: &[u8], i: usize, at: usize, low: u64, high: u64) -> usize
+    requires { ⌜ fileAnswer (contentsTests (now file) (length (now file))) ≡ Done ⌝ }
+    requires { ⌜ i < countIn (now file) ⌝ }
+    requires { ⌜ at ≡ bodyStart (now file) i ⌝ }
+    requires { ⌜ asked (now file) false i ≡ true ⌝ }
+    ensures { λ r. ⌜ r ≡ length (foundIn (blockIn (now (file .entry)) i) (i * 1024) low high) ⌝ }
+{
+    let mut block = [0u64; 1024];
+    block_from(file, i, at, &mut block);
+    count_block(&block, low, high)
+}
+
+// How many values of the block lie between the bounds.
+fn count_block(block: &[u64], low: u64, high: u64) -> usize
+    ensures { λ r. ⌜ r ≡ length (foundIn (now (block .entry)) 0 low high) ⌝ }
+{
+    let mut k = 0;
+    let mut j = 0;
+    while j < block.len() {
+        if lies(block[j], low, high) {
+            k += 1;
+        }
+        j += 1;
+    }
+    k
+}
+
+// Lists the rows that are found in block i, whose body begins at `at`, from place k of the room on, and gives the place behind them.
+fn list_from(
+    file: &[u8],
+    i: usize,
+    at: usize,
+    low: u64,
+    high: u64,
+    k: usize,
+    rows: &mut [u64],
+) -> usize
+    requires { ⌜ fileAnswer (contentsTests (now file) (length (now file))) ≡ Done ⌝ }
+    requires { ⌜ i < countIn (now file) ⌝ }
+    requires { ⌜ at ≡ bodyStart (now file) i ⌝ }
+    requires { ⌜ asked (now file) false i ≡ true ⌝ }
+    requires { ⌜ k + length (foundIn (blockIn (now file) i) (i * 1024) low high) ≤ length (now rows) ⌝ }
+    ensures { λ r. ⌜ r ≡ k + length (foundIn (blockIn (now (file .entry)) i) (i * 1024) low high) ⌝ }
+    ensures { λ _. ⌜ now (rows .exit) ≡ over k (foundIn (blockIn (now (file .entry)) i) (i * 1024) low high) (now (rows .entry)) ⌝ }
+{
+    let mut block = [0u64; 1024];
+    block_from(file, i, at, &mut block);
+    list_block(&block, i * 1024, low, high, k, rows)
+}
+
+// Lists the rows of a block that begins with row `first` whose value lies between the bounds.
+fn list_block(block: &[u64], first: usize, low: u64, high: u64, k: usize, rows: &mut [u64]) -> usize
+    requires { ⌜ first + length (now block) < 18446744073709551616 ⌝ }
+    requires { ⌜ k + length (foundIn (now block) first low high) ≤ length (now rows) ⌝ }
+    ensures { λ r. ⌜ r ≡ k + length (foundIn (now (block .entry)) first low high) ⌝ }
+    ensures { λ _. ⌜ now (rows .exit) ≡ over k (foundIn (now (block .entry)) first low high) (now (rows .entry)) ⌝ }
+{
+    let mut next = k;
+    let mut j = 0;
+    while j < block.len() {
+        if lies(block[j], low, high) {
+            rows[next] = (first + j) as u64;
+            next += 1;
+        }
+        j += 1;
+    }
+    next
+}
