@@ -32,7 +32,7 @@ use Rattle.candidates.specs.declared.Measures.{Measures}
 use Rattle.candidates.specs.Calls.{entryFor, layTests, laidOf, layLeaves, answerOf}
 use Rattle.candidates.specs.Candidates.{baseOf, differences, framed, chosen, bodyFor}
 use Rattle.candidates.specs.InnerMeasures.{measuresOf, shorterPart, wordsBy}
-use Rattle.bodies.specs.Ranges.{lowestOf}
+use Rattle.bodies.specs.Ranges.{lowestOf, trueRange}
 use Rattle.candidates.specs.Widths.{bits, widthOf}
 use Rattle.candidates.proofs.Choice.{length-base, body-sized, front-over}
 use Rattle.candidates.proofs.Filling.{base-first}
@@ -53,11 +53,12 @@ module _ (values : List ℕ) (long : length values ≡ 1024) where
   -- What is measured.
   pub measured : (low high plain frame top steps : ℕ) → Elements t64 values → low ≡ lowestOf values → high ≡ highestOf values
       → plain ≡ bits high → frame ≡ bits (high - low) → bits top ≡ widthOf (differences values) → steps ≡ bits top
-      → record { low = low; plain = plain; frame = frame; steps = steps } ≡ measuresOf values
+      → record { low = low; high = high; plain = plain; frame = frame; steps = steps } ≡ measuresOf values
   unfolding measuresOf widthOf
   measured low high plain frame top steps fits el eh ep ef et es =
       λ j. record {
         low = el j;
+        high = eh j;
         plain = (ep ∙ ap bits eh) j;
         frame = (ef ∙ ap bits (ap₂ (λ a b. a - b) eh el ∙ sym (frame-highest values long fits))) j;
         steps = (es ∙ et) j;
@@ -79,6 +80,11 @@ fronts m values steps a b c x y z ex ey ez =
     ∙ front-over (baseOf values ++ packOf t64 (m .steps) steps) c (16 + 16 * m .steps)
     (length-append (baseOf values) (packOf t64 (m .steps) steps) ∙ ap₂ _+_ (length-base values) (length-pack t64 (m .steps) steps)))
 
+-- The range that was measured is the true one.
+pub measured-range : (m : Measures) (values : List ℕ) → m ≡ measuresOf values → record { smallest = m .low; largest = m .high } ≡ trueRange values
+unfolding measuresOf
+measured-range m values e = ap (λ m. record { smallest = m .low; largest = m .high }) e
+
 -- No width that is measured is above 64.
 pub measured-most : (m : Measures) (values : List ℕ) → m ≡ measuresOf values → (m .plain ≤ 64) × ((m .frame ≤ 64) × (m .steps ≤ 64))
 unfolding measuresOf
@@ -97,17 +103,17 @@ module _ (values : List ℕ) where
 module _ (values output : List ℕ) where
   -- An answer decides what is given and left.
   laid-by : (a : FileAnswer) → fileAnswer (layTests values output) ≡ a
-      → (laidOf values output ≡ pick (isDone a) (As (chosen values .entry)) (Refused a)) × (layLeaves values output ≡ left a (over 0 (bodyFor values) output) output)
+      → (laidOf values output ≡ pick (isDone a) (As (chosen values .entry) (trueRange values)) (Refused a)) × (layLeaves values output ≡ left a (over 0 (bodyFor values) output) output)
   unfolding laidOf layLeaves
   laid-by a e = (
-    ap (λ x. pick (isDone x) (As (chosen values .entry)) (Refused x)) e,
+    ap (λ x. pick (isDone x) (As (chosen values .entry) (trueRange values)) (Refused x)) e,
     ap (λ x. left x (over 0 (bodyFor values) output) output) e,
   )
 
   -- What is given back says the answer.
   pub lay-answers : answerOf (laidOf values output) ≡ fileAnswer (layTests values output)
   unfolding laidOf
-  lay-answers = says-answer answerOf (As (chosen values .entry)) Refused refl (λ a. refl) (fileAnswer (layTests values output))
+  lay-answers = says-answer answerOf (As (chosen values .entry) (trueRange values)) Refused refl (λ a. refl) (fileAnswer (layTests values output))
 
   pub bad-values : (length values ≡ 1024 → ⊥) → (Refused Block ≡ laidOf values output) × (output ≡ layLeaves values output)
   bad-values bad =
@@ -122,13 +128,13 @@ module _ (values output : List ℕ) where
         (sym (l .0), sym (l .1))
 
     pub laid-there : chosen values .entry .length ≤ length output
-        → (laidOf values output ≡ As (chosen values .entry)) × (layLeaves values output ≡ over 0 (bodyFor values) output)
+        → (laidOf values output ≡ As (chosen values .entry) (trueRange values)) × (layLeaves values output ≡ over 0 (bodyFor values) output)
     laid-there h =
         let room : length (bodyFor values) ≤ length output = omega (arith, body-sized values) in
         laid-by Done (passed _ _ (eq-eqb (length values) 1024 long) ∙ passed _ _ (le-leb (length (bodyFor values)) (length output) room) ∙ none-left)
 
     pub laid : chosen values .entry .length ≤ length output
-        → (As (chosen values .entry) ≡ laidOf values output) × (writeLeaves 8 (chosen values .words) output ≡ layLeaves values output)
+        → (As (chosen values .entry) (trueRange values) ≡ laidOf values output) × (writeLeaves 8 (chosen values .words) output ≡ layLeaves values output)
     unfolding bodyFor
     laid h =
         let l = laid-there h in

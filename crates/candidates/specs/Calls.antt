@@ -1,4 +1,5 @@
--- What the calls on one block answer and leave (document 02, Item 3): the entry that the writer gives a block, and the body written.
+-- What the calls on one block answer and leave (document 02, Items 3 and 9): the entry that the writer gives a block, its smallest and largest number,
+-- and the body written.
 -- Assumes nothing.
 use mathlib.Core.List.{List, [], _∷_}
 use Prim.Native.Nat.{ℕ}
@@ -9,8 +10,10 @@ use Rattle.places.specs.Takes.{long}
 use Rattle.contents.specs.declared.Entry.{Entry}
 use Rattle.contents.specs.declared.FileAnswer.{FileAnswer}
 use Rattle.contents.specs.declared.FileAnswer.the-variants.{Done}
+use Rattle.contents.specs.declared.Range.{Range}
 use Rattle.contents.specs.Answers.{FileTest, a-block, a-room, fileAnswer, isDone, left}
-use Rattle.contents.specs.Contents.{noEntry}
+use Rattle.contents.specs.Contents.{noEntry, anyRange}
+use Rattle.bodies.specs.Ranges.{trueRange}
 use Rattle.candidates.specs.declared.Laid.{Laid}
 use Rattle.candidates.specs.declared.Laid.the-variants.{As, Refused}
 use Rattle.candidates.specs.Candidates.{chosen, bodyFor}
@@ -23,9 +26,10 @@ entryFor values = pick (long 1024 values) (chosen values .entry) noEntry
 abbrev pub layTests : (values output : List ℕ) → List FileTest
 layTests values output = a-block values ∷ a-room (length (bodyFor values)) (length output) ∷ []
 
--- It gives the block's entry, or the refusal,
+-- It gives the block's entry and its range, or the refusal,
 unfoldable pub laidOf : (values output : List ℕ) → Laid
-laidOf values output = pick (isDone (fileAnswer (layTests values output))) (As (chosen values .entry)) (Refused (fileAnswer (layTests values output)))
+laidOf values output =
+    pick (isDone (fileAnswer (layTests values output))) (As (chosen values .entry) (trueRange values)) (Refused (fileAnswer (layTests values output)))
 
 -- and leaves the body at the front of the output; the bytes behind it stay.
 unfoldable pub layLeaves : (values output : List ℕ) → List ℕ
@@ -33,10 +37,15 @@ layLeaves values output = left (fileAnswer (layTests values output)) (over 0 (bo
 
 -- An entry stands for an answer that is done, and a refusal for itself.
 abbrev pub answerOf : Laid → FileAnswer
-answerOf (As e) = Done
+answerOf (As e r) = Done
 answerOf (Refused a) = a
 
 -- After a refusal there is no entry.
 abbrev pub entryLaid : Laid → Entry
-entryLaid (As e) = e
+entryLaid (As e r) = e
 entryLaid (Refused a) = noEntry
+
+-- There is no range either, and from 0 to the highest number stands for it.
+abbrev pub rangeLaid : Laid → Range
+rangeLaid (As e r) = r
+rangeLaid (Refused a) = anyRange

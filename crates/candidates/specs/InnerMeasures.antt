@@ -11,14 +11,16 @@ use Rattle.packing.specs.Packed.{packOf}
 use Rattle.deltas.specs.Deltas.{forPackOf}
 use Rattle.contents.specs.declared.Entry.{Entry}
 use Rattle.candidates.specs.declared.Measures.{Measures}
+use Rattle.runs.specs.Highest.{highestOf}
 use Rattle.bodies.specs.Ranges.{lowestOf}
 use Rattle.candidates.specs.Widths.{widthOf}
 use Rattle.candidates.specs.Candidates.{packedEntry, framed, differences, baseOf}
 
--- These are the lowest number and the widths of the three candidates.
+-- These are the lowest and the highest number and the widths of the three candidates.
 unfoldable pub measuresOf : (values : List ℕ) → Measures
 measuresOf values = record {
   low = lowestOf values;
+  high = highestOf values;
   plain = widthOf values;
   frame = widthOf (framed values);
   steps = widthOf (differences values);

@@ -6,6 +6,8 @@
 use bodies::range_of;
 use contents::Entry;
 use contents::FileAnswer;
+use contents::Range;
+use contents::any_range;
 use contents::no_entry;
 use deltas::t64::delta;
 use deltas::t64::for_pack;
@@ -22,14 +24,14 @@ ghost use Rattle.places.specs.Tab.{over};
 ghost use Rattle.packing.specs.Packed.{packOf};
 ghost use Rattle.deltas.specs.Deltas.{forPackOf};
 ghost use Rattle.little.specs.Little.{writeLeaves};
-ghost use Rattle.candidates.specs.Calls.{entryFor, laidOf, layLeaves, answerOf, entryLaid};
+ghost use Rattle.candidates.specs.Calls.{entryFor, laidOf, layLeaves, answerOf, entryLaid, rangeLaid};
 ghost use Rattle.candidates.specs.Candidates.{packedEntry, baseOf, differences as differencesOf, chosen};
 ghost use Rattle.candidates.specs.InnerMeasures.{measuresOf, entryBy, shorterEntry, shorterPart, wordsBy};
 ghost use Rattle.candidates.specs.Widths.{bits, widthOf};
 
-// The entry of a block that was laid down, or the refusal.
+// The entry of a block that was laid down, with its smallest and its largest number, or the refusal.
 pub enum Laid {
-    As(Entry),
+    As(Entry, Range),
     Refused(FileAnswer),
 }
 
@@ -39,7 +41,7 @@ impl Laid {
         ensures { λ r. ⌜ r ≡ answerOf self ⌝ }
     {
         match self {
-            Laid::As(_) => FileAnswer::Done,
+            Laid::As(_, _) => FileAnswer::Done,
             Laid::Refused(a) => a,
         }
     }
@@ -49,15 +51,26 @@ impl Laid {
         ensures { λ r. ⌜ r ≡ entryLaid self ⌝ }
     {
         match self {
-            Laid::As(e) => e,
+            Laid::As(e, _) => e,
             Laid::Refused(_) => no_entry(),
+        }
+    }
+
+    // The smallest and the largest number; after a refusal every number is between them.
+    pub fn range(self) -> Range
+        ensures { λ r. ⌜ r ≡ rangeLaid self ⌝ }
+    {
+        match self {
+            Laid::As(_, r) => r,
+            Laid::Refused(_) => any_range(),
         }
     }
 }
 
-// What is measured of a block: its lowest number, and the widths of the three candidates.
+// What is measured of a block: its lowest and its highest number, and the widths of the three candidates.
 struct Measures {
     low: u64,
+    high: u64,
     plain: usize,
     frame: usize,
     steps: usize,
@@ -75,7 +88,7 @@ pub fn entry_for(values: &[u64]) -> Entry
     entry_by(m)
 }
 
-// Lays the body of the chosen candidate down at the front of the output, and gives its entry.
+// Lays the body of the chosen candidate down at the front of the output, and gives its entry and the block's range.
 pub fn lay_block(values: &[u64], output: &mut [u8]) -> Laid
     ensures { λ r. ⌜ r ≡ laidOf (now (values .entry)) (now (output .entry)) ⌝ }
     ensures { λ _. ⌜ now (output .exit) ≡ layLeaves (now (values .entry)) (now (output .entry)) ⌝ }
@@ -90,7 +103,11 @@ pub fn lay_block(values: &[u64], output: &mut [u8]) -> Laid
         return Laid::Refused(FileAnswer::Room);
     }
     lay_shortest(m, values, &differences, output);
-    Laid::As(e)
+    let range = Range {
+        smallest: m.low,
+        largest: m.high,
+    };
+    Laid::As(e, range)
 }
 
 // Measures a block, and leaves its differences behind, which are packed later. No number is below the lowest, so the highest number
@@ -105,6 +122,7 @@ fn measure(values: &[u64], differences: &mut [u64]) -> Measures
     delta(values, &values[..16], differences);
     Measures {
         low: range.smallest,
+        high: range.largest,
         plain: width_of(range.largest),
         frame: width_of(range.largest - range.smallest),
         steps: width_of(any_bits(differences)),

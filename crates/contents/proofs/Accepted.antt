@@ -13,7 +13,7 @@ use Rattle.places.specs.Pick.{both, either}
 use Rattle.places.proofs.Tests.{both-true}
 use Rattle.contents.specs.declared.FileAnswer.the-variants.{Done}
 use Rattle.contents.specs.Answers.{FileTest, passes, fileAnswer}
-use Rattle.contents.specs.Contents.{edition, count, contentsSize, entryOf, rangeOf, isLaidOut, isOrdered, isRight, badEntry, bodyStart, contentsTests}
+use Rattle.contents.specs.Contents.{edition, count, contentsSize, entryOf, rangeOf, isLaidOut, isTakenIn, isOrdered, isRight, badEntry, bodyStart, contentsTests}
 use Rattle.contents.specs.First.{firstBad}
 use Rattle.contents.proofs.Answers.{passed, stopped, none-left, refusal-not-done, in-front-done}
 use Rattle.contents.proofs.Checks.{Known, true-known, entries-there, entries-done}
@@ -47,15 +47,20 @@ pub record Whole (l : List ℕ) (size : ℕ) : Type 0 where
   pub right : (i : ℕ) → i < count l → isRight l i ≡ true
   pub end : bodyStart l (count l) ≡ size
 
--- Every entry is as laid out, and its smallest value is not above its largest.
-module _ {l : List ℕ} {size : ℕ} (w : Whole l size) where
-  pub whole-laid : (i : ℕ) → i < count l → isLaidOut (entryOf l i) ≡ true
+-- Every entry is as laid out, its kind is one that the edition takes, and its smallest value is not above its largest.
+module _ {l : List ℕ} {size : ℕ} (w : Whole l size) (i : ℕ) (h : i < count l) where
+  laid-taken : (isLaidOut (entryOf l i) ≡ true) × (both (isTakenIn (edition l) (entryOf l i)) (isOrdered (rangeOf l i)) ≡ true)
   unfolding isRight
-  whole-laid i h = both-true (isLaidOut (entryOf l i)) (isOrdered (rangeOf l i)) (w .right i h) .0
+  laid-taken = both-true (isLaidOut (entryOf l i)) (both (isTakenIn (edition l) (entryOf l i)) (isOrdered (rangeOf l i))) (w .right i h)
 
-  pub whole-ordered : (i : ℕ) → i < count l → isOrdered (rangeOf l i) ≡ true
-  unfolding isRight
-  whole-ordered i h = both-true (isLaidOut (entryOf l i)) (isOrdered (rangeOf l i)) (w .right i h) .1
+  pub whole-laid : isLaidOut (entryOf l i) ≡ true
+  whole-laid = laid-taken .0
+
+  pub whole-taken : isTakenIn (edition l) (entryOf l i) ≡ true
+  whole-taken = both-true (isTakenIn (edition l) (entryOf l i)) (isOrdered (rangeOf l i)) (laid-taken .1) .0
+
+  pub whole-ordered : isOrdered (rangeOf l i) ≡ true
+  whole-ordered = both-true (isTakenIn (edition l) (entryOf l i)) (isOrdered (rangeOf l i)) (laid-taken .1) .1
 
 module _ (l : List ℕ) (size : ℕ) where
   -- Where every entry is right, none is the lowest bad one, and the other way round.

@@ -1,17 +1,18 @@
 -- The laws of entries and of the bodies' lengths: an entry that is there, and that each body ends within all of them.
 -- Assumes nothing.
 use mathlib.Core.Bool.{Bool, true, false}
-use mathlib.Core.Path.{_≡_, sym, ap, ap₂, _∙_}
+use mathlib.Core.Path.{_≡_, refl, sym, ap, ap₂, _∙_}
 use mathlib.Core.List.{List}
 use Prim.Native.Nat.{ℕ, zero, suc, _+_, _-_, _≤_, _<_}
 use native.Mathlib.Decide.{decLe}
 use native.Mathlib.Nat.{add-zero, add-suc}
 use native.Mathlib.Numerals.{add-one}
 use native.Mathlib.Omega.{arith}
-use lib.Dec.{leb}
+use lib.Dec.{leb, ltb}
 use lib.ListN.{length}
 use borrow.Author.Tests.{le-leb, lt-leb, eq-eqb, ne-eqb, leb-true, leb-false}
-use Rattle.contents.specs.Contents.{edition, contentsSize, entryOf, noEntry, entryOr, rangeAt, anyRange, rangeOf, rangeOr, editionOr, bodiesSize}
+use Rattle.places.specs.Pick.{pick, both}
+use Rattle.contents.specs.Contents.{edition, contentsSize, entryOf, noEntry, entryOr, rangeAt, anyRange, rangeOf, rangeOr, isLaidOut, isTakenIn, isOrdered, isRight, editionOr, bodiesSize}
 use Rattle.little.proofs.Little.{little-within}
 use Rattle.contents.proofs.Sizes.{size-least}
 
@@ -40,6 +41,24 @@ module _ (l : List ℕ) (i : ℕ) where
   pub range-other : (edition l ≡ 2 → ⊥) → rangeOf l i ≡ anyRange
   unfolding rangeOf
   range-other h = simp (ne-eqb (edition l) 2 h)
+
+  -- So in edition 2 an entry is right by three tests,
+  pub right-second : edition l ≡ 2
+      → isRight l i ≡ both (isLaidOut (entryOf l i)) (both (ltb (entryOf l i .kind) 3) (isOrdered (rangeAt l (contentsSize (edition l) i + 16))))
+  unfolding isRight
+  right-second h =
+      ap₂ (λ b r. both (isLaidOut (entryOf l i)) (both (pick b (ltb (entryOf l i .kind) 3) true) (isOrdered r))) (eq-eqb (edition l) 2 h) (range-second h)
+
+  -- and in edition 1 where it is as laid out.
+  pub right-other : (edition l ≡ 2 → ⊥) → isRight l i ≡ isLaidOut (entryOf l i)
+  unfolding isRight
+  right-other h =
+      ap₂ (λ b r. both (isLaidOut (entryOf l i)) (both (pick b (ltb (entryOf l i .kind) 3) true) (isOrdered r))) (ne-eqb (edition l) 2 h) (range-other h)
+      ∙ alone (isLaidOut (entryOf l i))
+    where
+      alone : (b : Bool) → both b true ≡ b
+      alone true = refl
+      alone false = refl
 
 -- The edition that is read is that of the file, where its bytes are there.
 pub edition-there : (l : List ℕ) → 2 ≤ length l → editionOr l ≡ edition l

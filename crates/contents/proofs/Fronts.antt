@@ -14,7 +14,7 @@ use lib.Seq.{getD-take}
 use Rattle.places.specs.Pick.{pick, both}
 use Rattle.little.specs.Little.{little}
 use Rattle.contents.specs.Answers.{laid-out, enough, an-end, fileAnswer}
-use Rattle.contents.specs.Contents.{edition, count, contentsSize, entryAt, entryOf, entryOr, rangeAt, anyRange, rangeOf, rangeOr, isLaidOut, isOrdered, isRight, badEntry, bodiesSize, bodyStart, entriesTests, contentsTests}
+use Rattle.contents.specs.Contents.{edition, count, contentsSize, entryAt, entryOf, entryOr, rangeAt, anyRange, rangeOf, rangeOr, isLaidOut, isTakenIn, isOrdered, isRight, badEntry, bodiesSize, bodyStart, entriesTests, contentsTests}
 use Rattle.contents.specs.First.{firstBad}
 use Rattle.contents.proofs.Checks.{Known, known-or-not, short-head, other-edition, many-blocks, short-entries, entries-there}
 use Rattle.contents.proofs.Entries.{entry-there, range-there}
@@ -63,7 +63,9 @@ module _ (l : List ℕ) (k : ℕ) (h : 8196 ≤ k) where
 
   right-front : (i : ℕ) → i < 256 → isRight (take k l) i ≡ isRight l i
   unfolding isRight
-  right-front i b = ap₂ (λ e r. both (isLaidOut e) (isOrdered r)) (entry-front i b) (range-front i b)
+  right-front i b =
+      ap₂ (λ e r. both (isLaidOut e) (both (isTakenIn (edition (take k l)) e) (isOrdered r))) (entry-front i b) (range-front i b)
+      ∙ ap (λ n. both (isLaidOut (entryOf l i)) (both (isTakenIn n (entryOf l i)) (isOrdered (rangeOf l i)))) edition-front
 
   sizes-front : (n : ℕ) → n ≤ 256 → bodiesSize (take k l) n ≡ bodiesSize l n
   unfolding bodiesSize

@@ -1,17 +1,17 @@
--- What an entry that is as laid out says of itself, kind by kind.
+-- What an entry that is as laid out says of itself, kind by kind, and which kinds an edition takes.
 -- Assumes nothing.
 use mathlib.Core.Bool.{Bool, true, false}
 use mathlib.Core.Logic.{_↔_, _⊎_, inl, inr, ⊎-elim}
 use mathlib.Core.Path.{_≡_, refl, sym, ap₂, _∙_}
 use Prim.Native.Nat.{ℕ, _+_, _*_, _-_, _/_, _%_, _≤_, _<_}
 use native.Mathlib.Omega.{arith}
-use lib.Dec.{eqb, leb}
-use borrow.Author.Tests.{eq-eqb, le-leb, leb-true, eqb-true, eqb-false}
+use lib.Dec.{eqb, leb, ltb}
+use borrow.Author.Tests.{eq-eqb, le-leb, lt-ltb, leb-true, ltb-true, eqb-true, eqb-false}
 use Rattle.places.specs.Pick.{pick, both}
 use Rattle.places.proofs.Tests.{both-true, false-true}
 use Rattle.contents.specs.declared.Entry.{Entry}
-use Rattle.contents.specs.Contents.{isPacked, isRuns, isOfKind, isLaidOut}
-use Rattle.contents.specs.Plain.{RunLength, LaidOut}
+use Rattle.contents.specs.Contents.{isPacked, isRuns, isOfKind, isLaidOut, isTakenIn}
+use Rattle.contents.specs.Plain.{RunLength, LaidOut, TakenIn}
 
 module _ (e : Entry) (good : isLaidOut e ≡ true) where
   of-kind : isOfKind e ≡ true
@@ -74,10 +74,10 @@ module _ (e : Entry) (good : isLaidOut e ≡ true) where
 eqb-is : (a b : ℕ) → (eqb a b ≡ true) ↔ (a ≡ b)
 eqb-is a b = (eqb-true a b, eq-eqb a b)
 
-leb-is : (a b : ℕ) → (leb a b ≡ true) ↔ (a ≤ b)
+pub leb-is : (a b : ℕ) → (leb a b ≡ true) ↔ (a ≤ b)
 leb-is a b = (leb-true a b, le-leb a b)
 
-both-is : {P Q : Type 0} (a b : Bool) → (a ≡ true) ↔ P → (b ≡ true) ↔ Q → (both a b ≡ true) ↔ (P × Q)
+pub both-is : {P Q : Type 0} (a b : Bool) → (a ≡ true) ↔ P → (b ≡ true) ↔ Q → (both a b ≡ true) ↔ (P × Q)
 both-is a b f g = (
   (λ h. let t = both-true a b h in (f .0 (t .0), g .0 (t .1))),
   (λ h. ap₂ both (f .1 (h .0)) (g .1 (h .1))),
@@ -128,3 +128,11 @@ laid-plain e =
     (λ k q. omega (arith, k, q .0)))
     (λ k q. ⊎-elim (λ r. omega (arith, k, r .0)) (λ r. omega (arith, k, r .0)) q))
     (λ k q. ⊎-elim (λ r. omega (arith, k, r .0)) (⊎-elim (λ r. omega (arith, k, r .0)) (λ r. omega (arith, k, r .0))) q))
+
+-- The test of the kind by the edition passes exactly when the edition takes it.
+pub taken-plain : (edition : ℕ) (e : Entry) → (isTakenIn edition e ≡ true) ↔ TakenIn edition e
+taken-plain edition e = go (eqb edition 2) refl
+  where
+    go : (t : Bool) → eqb edition 2 ≡ t → (pick t (ltb (e .kind) 3) true ≡ true) ↔ TakenIn edition e
+    go true k = ((λ h _. ltb-true (e .kind) 3 h), (λ h. lt-ltb (e .kind) 3 (h (eqb-true edition 2 k))))
+    go false k = ((λ _ q. absurd (eqb-false edition 2 k q)), (λ _. refl))

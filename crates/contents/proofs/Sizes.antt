@@ -20,6 +20,20 @@ pub size-other : (e n : ℕ) → (e ≡ 2 → ⊥) → contentsSize e n ≡ 4 + 
 unfolding contentsSize entrySize
 size-other e n h = ap (λ b. 4 + n * pick b 32 16) (ne-eqb e 2 h)
 
+-- The first entry stands behind four bytes,
+pub size-none : (e : ℕ) → contentsSize e 0 ≡ 4
+unfolding contentsSize
+size-none e = omega arith
+
+-- and the next one behind the one before it.
+pub size-next : (e i : ℕ) → contentsSize e (i + 1) ≡ contentsSize e i + entrySize e
+unfolding contentsSize entrySize
+size-next e i = go (eqb e 2)
+  where
+    go : (b : Bool) → 4 + (i + 1) * pick b 32 16 ≡ 4 + i * pick b 32 16 + pick b 32 16
+    go true = omega arith
+    go false = omega arith
+
 -- the one or the other, at every n
 sizes : (e : ℕ) → ((n : ℕ) → contentsSize e n ≡ 4 + n * 32) ⊎ ((n : ℕ) → contentsSize e n ≡ 4 + n * 16)
 sizes e = go (eqb e 2) refl

@@ -1,4 +1,4 @@
--- What a call on a column file answers: document 02's numbers and places, the tests that it makes (Items 1, 3 and 9,
+-- What a call on a column file answers: document 02's numbers and places, the tests that it makes (Items 1, 3, 9 and 11,
 -- "Refusals, in order"), and what it leaves in a lent buffer. The tests of a call stand in a list, in the order of its item, which is not that of the numbers.
 -- Assumes nothing.
 use mathlib.Core.Bool.{Bool}
@@ -46,7 +46,8 @@ pub data FileTest : Type 0 where
   enough : (needed there : ℕ) → FileTest
   -- The edition is 1 or 2, and there are at most 256 blocks.
   an-edition : (edition count : ℕ) → FileTest
-  -- Every entry is as laid out. `lowest` is the lowest that is not, and the count where there is none.
+  -- Every entry is as laid out, of a kind that its edition takes, and its smallest value is not above its largest. `lowest` is the lowest of
+  -- which this does not hold, and the count where there is none.
   laid-out : (lowest count : ℕ) → FileTest
   -- No byte stands after the last body.
   an-end : (end there : ℕ) → FileTest

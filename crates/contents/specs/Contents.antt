@@ -1,12 +1,12 @@
--- The contents of a column file (document 02, Items 1 and 9): edition, block count, and an entry for each block, in edition 2 with the block's
--- smallest and largest value. Then when an entry is as laid out, where each body stands, and what is tested of the contents.
+-- The contents of a column file (document 02, Items 1, 9 and 11): edition, block count, and an entry for each block, in edition 2 with the block's
+-- smallest and largest value. Then when an entry is right, where each body stands, and what is tested of the contents.
 --
 -- `l` is the front of a file, of which the contents are the first bytes; the whole file is its own front.
 -- Assumes nothing.
-use mathlib.Core.Bool.{Bool, false}
+use mathlib.Core.Bool.{Bool, true, false}
 use mathlib.Core.List.{List, [], _∷_}
 use Prim.Native.Nat.{ℕ, zero, suc, _+_, _*_, _%_}
-use lib.Dec.{eqb, leb}
+use lib.Dec.{eqb, leb, ltb}
 use lib.ListN.{length, getD}
 use Rattle.places.specs.Pick.{pick, both}
 use Rattle.little.specs.Little.{little, littleOr}
@@ -85,9 +85,13 @@ isOfKind e =
 unfoldable pub isLaidOut : (e : Entry) → Bool
 isLaidOut e = both (eqb (e .zero) 0) (isOfKind e)
 
--- Entry i of a file is right where it is as laid out and the smallest value that it says is not above the largest.
+-- Kind 3 is taken in edition 1 alone: in edition 2 the kind has to be below 3.
+abbrev pub isTakenIn : (edition : ℕ) (e : Entry) → Bool
+isTakenIn edition e = pick (eqb edition 2) (ltb (e .kind) 3) true
+
+-- Entry i of a file is right where it is as laid out, the edition takes its kind, and the smallest value that it says is not above the largest.
 unfoldable pub isRight : (l : List ℕ) (i : ℕ) → Bool
-isRight l i = both (isLaidOut (entryOf l i)) (isOrdered (rangeOf l i))
+isRight l i = both (isLaidOut (entryOf l i)) (both (isTakenIn (edition l) (entryOf l i)) (isOrdered (rangeOf l i)))
 
 -- This is the lowest entry that is not right, and the count where there is none.
 unfoldable pub badEntry : List ℕ → ℕ

@@ -1,5 +1,5 @@
-// The contents of a column file (document 02, Items 1 and 9): edition, block count, and an entry for each block, in edition 2
-// with the block's smallest and largest value. Here they are read and tested against the file's length, and nothing else of
+// The contents of a column file (document 02, Items 1, 9 and 11): edition, block count, and an entry for each block, in edition
+// 2 with the block's smallest and largest value. Here they are read and tested against the file's length, and nothing else of
 // the file is needed for that: a program that holds no more than the front of a file can ask here whether the file's contents
 // are right. The calls that begin with put write them, as edition 2.
 //
@@ -15,7 +15,7 @@ ghost use Prim.Native.Nat.{_+_, _*_, _≤_, _<_};
 ghost use lib.Dec.{leb};
 ghost use lib.ListN.{length};
 ghost use Rattle.contents.specs.Answers.{numberOf, placeOf, fileAnswer};
-ghost use Rattle.contents.specs.Contents.{edition as editionIn, count as countIn, contentsSize, entryAt, entryOf, entryOr, rangeAt, rangeOr, anyRange, rangeOf as rangeIn, noEntry, editionOr, countOr, isPacked, isRuns, isOfKind, isLaidOut, isOrdered, isRight, bodiesSize, entriesTests, contentsTests};
+ghost use Rattle.contents.specs.Contents.{edition as editionIn, count as countIn, contentsSize, entrySize, entryAt, entryOf, entryOr, rangeAt, rangeOr, anyRange, rangeOf as rangeIn, noEntry, editionOr, countOr, isPacked, isRuns, isOfKind, isLaidOut, isOrdered, isRight, bodiesSize, entriesTests, contentsTests};
 ghost use Rattle.contents.specs.Bytes.{headLeaves, firstLeaves, entryLeaves};
 ghost use Rattle.contents.specs.First.{firstBad};
 
@@ -28,7 +28,7 @@ pub enum FileAnswer {
     Cut,
     // the edition is neither 1 nor 2, or there are more than 256 blocks
     Edition,
-    // an entry is not as laid out; the lowest such entry
+    // an entry is not as laid out, or is of kind 3 in edition 2, or its smallest value is above its largest; the lowest such entry
     BadEntry(usize),
     // there are bytes after the last body
     Over,
@@ -200,10 +200,17 @@ fn contents_size(edition: usize, n: usize) -> usize
     requires { ⌜ contentsSize edition n < 18446744073709551616 ⌝ }
     ensures { λ r. ⌜ r ≡ contentsSize edition n ⌝ }
 {
+    4 + n * entry_size(edition)
+}
+
+// How many bytes an entry has.
+fn entry_size(edition: usize) -> usize
+    ensures { λ r. ⌜ r ≡ entrySize edition ⌝ }
+{
     if edition == 2 {
-        return 4 + n * 32;
+        return 32;
     }
-    4 + n * 16
+    16
 }
 
 // An entry of no kind, which stands for one that is not there.
@@ -220,7 +227,7 @@ pub fn no_entry() -> Entry
 }
 
 // The range from 0 to the highest number, which stands for one that is not there.
-fn any_range() -> Range
+pub fn any_range() -> Range
     ensures { λ r. ⌜ r ≡ anyRange ⌝ }
 {
     Range {
@@ -359,27 +366,34 @@ fn bad_entry(front: &[u8], edition: usize, n: usize) -> usize
     requires { ⌜ contentsSize edition n ≤ length (now front) ⌝ }
     ensures { λ r. ⌜ r ≡ firstBad n (isRight (now (front .entry))) ⌝ }
 {
+    let size = entry_size(edition);
+    let mut at = 4;
     let mut i = 0;
     let lowest = loop {
         if n <= i {
             break i;
         }
-        if !is_right(front, edition, i) {
+        if !is_right(front, edition, i, at) {
             break i;
         }
+        at += size;
         i += 1;
     };
     lowest
 }
 
-// Whether entry i, which is there, is right.
-fn is_right(front: &[u8], edition: usize, i: usize) -> bool
+// Whether entry i, which is there and begins at `at`, is right. In edition 1 it may be of any kind, and says no range.
+fn is_right(front: &[u8], edition: usize, i: usize, at: usize) -> bool
     requires { ⌜ edition ≡ editionIn (now front) ⌝ }
+    requires { ⌜ at ≡ contentsSize edition i ⌝ }
     requires { ⌜ contentsSize edition (i + 1) ≤ length (now front) ⌝ }
     ensures { λ r. ⌜ r ≡ isRight (now (front .entry)) i ⌝ }
 {
-    let e = entry_at(front, contents_size(edition, i));
-    e.is_laid_out() & range_of(front, edition, i).is_ordered()
+    let e = entry_at(front, at);
+    if edition == 2 {
+        return e.is_laid_out() & ((e.kind < 3) & range_at(front, at + 16).is_ordered());
+    }
+    e.is_laid_out()
 }
 
 // How many bytes the bodies of the first n entries have.
@@ -389,11 +403,14 @@ fn bodies_of(front: &[u8], edition: usize, n: usize) -> usize
     requires { ⌜ n ≤ 256 ⌝ }
     ensures { λ r. ⌜ (r ≡ bodiesSize (now (front .entry)) n) × (r ≤ 4294967296 * n) ⌝ }
 {
+    let size = entry_size(edition);
+    let mut at = 4;
     let mut sum = 0;
     let mut i = 0;
     while i < n {
-        let e = entry_at(front, contents_size(edition, i));
+        let e = entry_at(front, at);
         sum += e.length as usize;
+        at += size;
         i += 1;
     }
     sum

@@ -17,7 +17,7 @@ use Rattle.contents.proofs.Accepted.{done-first, done-front}
 use Rattle.contents.proofs.Answers.{passed, stopped, none-left, in-front-done, in-front-refused}
 use Rattle.contents.proofs.First.{first-only, first-before}
 use Rattle.bodies.specs.Ranges.{isRange}
-use Rattle.bodies.proofs.Blocks.{a-block, take-elements, drop-elements}
+use Rattle.bodies.proofs.Blocks.{Block, a-block, take-elements, drop-elements}
 use Rattle.bodies.proofs.Ranges.{Spans, range-spans}
 use Rattle.files.specs.Files.{bodyOf, blockIn, hasTrueRange, badRuns, badRange, fileTests}
 use Rattle.files.specs.InnerRuns.{runsTests}
@@ -78,12 +78,15 @@ module _ (l : List ℕ) where
   unfolding bodyOf
   body-bytes bytes i = take-elements 8 (entryOf l i .length) (drop (bodyStart l i) l) (drop-elements 8 (bodyStart l i) l bytes)
 
-  -- So in an accepted edition 2 file of bytes every value of a block is between the smallest and the largest that its entry says, and both stand
-  -- in the block.
+  -- So a block of an accepted file of bytes is 1,024 numbers of 64 bits,
+  pub file-block : Elements 8 l → fileAnswer (fileTests l) ≡ Done → (i : ℕ) → i < count l → Block (blockIn l i)
+  unfolding blockIn
+  file-block bytes done i h = a-block (entryOf l i) (bodyOf l i) (body-laid l (contents-right (file-runs done)) i h) (body-bytes bytes i)
+
+  -- and in edition 2 every value of it is between the smallest and the largest that its entry says, and both stand in the block.
   pub file-spans : Elements 8 l → fileAnswer (fileTests l) ≡ Done → edition l ≡ 2 → (i : ℕ) → i < count l → Spans (rangeOf l i) (blockIn l i)
-  unfolding hasTrueRange blockIn
+  unfolding hasTrueRange
   file-spans bytes done second i h =
-      let laid = body-laid l (contents-right (file-runs done)) i h in
-      let block = a-block (entryOf l i) (bodyOf l i) laid (body-bytes bytes i) in
+      let block = file-block bytes done i h in
       let tested = sym (ap (λ t. pick t (isRange (rangeOf l i) (blockIn l i)) true) (eq-eqb (edition l) 2 second)) ∙ ranges-true done i h in
       range-spans (rangeOf l i) (blockIn l i) (omega (arith, block .0)) (block .1) .0 tested

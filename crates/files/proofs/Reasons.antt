@@ -1,4 +1,4 @@
--- A file gets an answer exactly when it has the reason for it: the refusals of Items 1 and 9, each exactly when, in both directions, for the check, for one
+-- A file gets an answer exactly when it has the reason for it: the refusals of Items 1, 9 and 11, each exactly when, in both directions, for the check, for one
 -- block out and for the lookup of a row.
 -- Assumes nothing.
 use mathlib.Core.Bool.{Bool, true, false}
@@ -10,7 +10,7 @@ use native.Mathlib.Decide.{decLe, decLt, ℕ-discrete}
 use native.Mathlib.Omega.{arith}
 use lib.Dec.{eqb}
 use lib.ListN.{length, getD}
-use borrow.Author.Tests.{le-leb, leb-true, lt-ltb, le-ltb, eq-eqb, ne-eqb, eqb-true, eqb-false}
+use borrow.Author.Tests.{lt-ltb, le-ltb, eq-eqb, ne-eqb, eqb-true, eqb-false}
 use Rattle.places.specs.Pick.{pick, both}
 use Rattle.places.specs.Search.{firstBeyond}
 use Rattle.places.specs.Tab.{tab}
@@ -22,13 +22,13 @@ use Rattle.contents.specs.declared.Entry.{Entry}
 use Rattle.contents.specs.declared.FileAnswer.{FileAnswer}
 use Rattle.contents.specs.declared.FileAnswer.the-variants.{Done, Block, Cut, Edition, BadEntry, Over, Beyond, Runs, Range}
 use Rattle.contents.specs.Answers.{FileTest, a-number, good-runs, true-ranges, fileAnswer, numberOf}
-use Rattle.contents.specs.Contents.{edition, count, contentsSize, entryOf, rangeOf, isLaidOut, isOrdered, isRight, badEntry, bodyStart, entriesTests, contentsTests}
+use Rattle.contents.specs.Contents.{edition, count, contentsSize, entryOf, rangeOf, isRight, badEntry, bodyStart, entriesTests, contentsTests}
 use Rattle.contents.specs.First.{firstBad}
 use Rattle.contents.proofs.Accepted.{accepted, accepts}
 use Rattle.contents.proofs.Answers.{passed, stopped, none-left, in-front-done, in-front-refused, number-done}
 use Rattle.contents.proofs.Checks as Checks
 use Rattle.contents.proofs.First.{first-only, first-before, first-at}
-use Rattle.contents.proofs.Laid.{laid-plain}
+use Rattle.contents.proofs.Laid.{laid-plain, taken-plain, both-is, leb-is}
 use Rattle.bodies.specs.Bodies.{hasGoodRuns, valueCount}
 use Rattle.bodies.specs.Ranges.{isRange, lowestOf}
 use Rattle.runs.specs.Highest.{highestOf}
@@ -97,11 +97,8 @@ module _ (l : List ℕ) where
   -- that of an entry,
   pub entry-plain : (i : ℕ) → (isRight l i ≡ true) ↔ EntryRight l i
   unfolding isRight
-  entry-plain i = (
-    (λ e. let t = both-true (isLaidOut (entryOf l i)) (isOrdered (rangeOf l i)) e in
-        (laid-plain (entryOf l i) .0 (t .0), leb-true (rangeOf l i .smallest) (rangeOf l i .largest) (t .1))),
-    (λ r. ap₂ both (laid-plain (entryOf l i) .1 (r .0)) (le-leb (rangeOf l i .smallest) (rangeOf l i .largest) (r .1))),
-  )
+  entry-plain i =
+      both-is _ _ (laid-plain (entryOf l i)) (both-is _ _ (taken-plain (edition l) (entryOf l i)) (leb-is (rangeOf l i .smallest) (rangeOf l i .largest)))
 
   -- and that of a range.
   pub range-plain : (i : ℕ) → (hasTrueRange l i ≡ true) ↔ TrueRange l i
@@ -273,6 +270,13 @@ module _ (l : List ℕ) where
     (λ e. subst (Reason l) (sym (reason-gives (from-head .1)) ∙ e) (from-head .1)),
     (λ r. reason-gives r),
   )
+
+  -- In edition 2 no block has runs, so that 13 is never given.
+  pub second-runs : edition l ≡ 2 → (p : ℕ) → fileAnswer (fileTests l) ≡ Runs p → ⊥
+  second-runs second p e = go (file-exactly (Runs p) .0 e)
+    where
+      go : Reason l (Runs p) → ⊥
+      go (bad-runs p r h bad before) = bad (λ k. absurd (omega (arith, r .entries p h .1 .0 second)))
 
   -- ---- one block out, and the lookup of a row
 

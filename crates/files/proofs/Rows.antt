@@ -3,17 +3,20 @@
 -- Assumes nothing.
 use mathlib.Core.Bool.{Bool, true, false}
 use mathlib.Core.List.{List, [], _∷_}
-use mathlib.Core.Path.{_≡_, refl, sym, ap, ap₂, _∙_}
+use mathlib.Core.Path.{_≡_, refl, sym, ap, ap₂, _∙_, subst}
 use Prim.Native.Nat.{ℕ, _+_, _*_, _/_, _%_, _^_, _≤_, _<_}
 use native.Mathlib.Decide.{decLe}
 use native.Mathlib.Omega.{arith}
 use lib.ListN.{length, getD}
 use borrow.Author.Tests.{lt-ltb, le-ltb}
 use Rattle.places.specs.Pick.{pick}
-use Rattle.places.specs.Numbers.{plus}
+use Rattle.places.specs.Numbers.{plus, Elements}
+use Rattle.places.specs.Parts.{cut}
 use Rattle.places.specs.Sizes.{t64}
 use Rattle.places.specs.Tab.{tab, tabFrom}
-use Rattle.places.proofs.Tabs.{getD-tab, length-tab}
+use Rattle.places.proofs.Digits.{elements-of}
+use Rattle.places.proofs.Parts.{length-cut, getD-cut}
+use Rattle.places.proofs.Tabs.{getD-tab, length-tab, is-tab, tab-getD}
 use Rattle.packing.proofs.Rounds.{value-zero}
 use Rattle.access.specs.Counts.{countAt, noCount, wordsAt}
 use Rattle.access.proofs.Counts.{a-place}
@@ -32,6 +35,7 @@ use Rattle.files.specs.declared.Row.the-variants.{Value, Refused}
 use Rattle.files.specs.Files.{badRuns, hasTrueRange, badRange, blockIn, rowCount, rowAt, rowsOf, fileTests, rowTests, blockLeaves}
 use Rattle.files.specs.Rows.{answerOf, valueOf, wordsOf, rowWords, rowOf}
 use Rattle.files.proofs.Calls.{row-as-block, row-laid, row-done, block-done}
+use Rattle.files.proofs.Ranges.{file-block}
 
 module _ (l : List ℕ) where
   -- A file has 1,024 rows for each of its blocks.
@@ -43,6 +47,24 @@ module _ (l : List ℕ) where
   pub row-place : (p : ℕ) → p < 1024 * count l → getD (rowsOf l) p 0 ≡ getD (blockIn l (p / 1024)) (p % 1024) 0
   unfolding rowsOf rowAt
   row-place p h = getD-tab (rowCount l) (λ p. getD (blockIn l (p / 1024)) (p % 1024) 0) p 0 h
+
+  -- So 1,024 rows are a block,
+  pub rows-block : (i : ℕ) → i < count l → length (blockIn l i) ≡ 1024 → cut 1024 (rowsOf l) i ≡ blockIn l i
+  rows-block i h long =
+      is-tab (cut 1024 (rowsOf l) i) 1024 (λ k. getD (blockIn l i) k 0) 0 (length-cut 1024 (rowsOf l) i (omega (arith, rows-count)))
+      (λ k m.
+      let b : (i * 1024 + k) / 1024 ≡ i = omega arith in
+      let q : (i * 1024 + k) % 1024 ≡ k = omega arith in
+      getD-cut 1024 (rowsOf l) i k 0 m
+      ∙ row-place (i * 1024 + k) (omega arith)
+      ∙ ap₂ (λ b q. getD (blockIn l b) q 0) b q)
+      ∙ tab-getD (blockIn l i) 0 1024 long
+
+  -- and in an accepted file of bytes every row is a number of 64 bits.
+  pub rows-fit : Elements 8 l → fileAnswer (fileTests l) ≡ Done → Elements t64 (rowsOf l)
+  rows-fit bytes done =
+      elements-of t64 (1024 * count l) (rowsOf l) rows-count
+      (λ p h. subst (λ v. v < 2 ^ t64) (sym (row-place p h)) (file-block l bytes done (p / 1024) (omega arith) .1 (p % 1024)))
 
   -- In an accepted file the lookup of a row gives that row, which is what one block out leaves at its place.
   pub row-block : fileAnswer (fileTests l) ≡ Done → (p : ℕ) → p < 1024 * count l → (output : List ℕ) → length output ≡ 1024

@@ -1,4 +1,4 @@
--- When each number of Items 1 and 9 is given to a file, said a second time: in plain arithmetic, without a test or a search, in the order of the
+-- When each number of Items 1, 9 and 11 is given to a file, said a second time: in plain arithmetic, without a test or a search, in the order of the
 -- document. It guards the chain of tests in Files: that a file gets an answer exactly when it has the reason for it here is a theorem.
 -- Assumes nothing.
 use mathlib.Core.List.{List}
@@ -11,7 +11,7 @@ use Rattle.contents.specs.declared.Entry.{Entry}
 use Rattle.contents.specs.declared.FileAnswer.{FileAnswer}
 use Rattle.contents.specs.declared.FileAnswer.the-variants.{Done, Block, Cut, Edition, BadEntry, Over, Beyond, Runs, Range}
 use Rattle.contents.specs.Contents.{edition, count, contentsSize, entryOf, rangeOf, bodyStart}
-use Rattle.contents.specs.Plain.{LaidOut}
+use Rattle.contents.specs.Plain.{LaidOut, TakenIn}
 use Rattle.runs.specs.Highest.{highestOf}
 use Rattle.bodies.specs.Ranges.{lowestOf}
 use Rattle.files.specs.Files.{bodyOf, blockIn, rowCount}
@@ -35,10 +35,10 @@ pub record Headed (l : List ℕ) : Type 0 where
   pub few : count l ≤ 256
   pub room : contentsSize (edition l) (count l) ≤ length l
 
--- Entry i is as laid out, and its smallest value is not above its largest. In edition 1 its range is from 0 to the highest number of 64 bits, so
--- that the second half holds of itself.
+-- Entry i is as laid out, its kind is one that the edition takes, and its smallest value is not above its largest. In edition 1 every kind is taken
+-- and its range is from 0 to the highest number of 64 bits, so that the last two hold of themselves.
 abbrev pub EntryRight : (l : List ℕ) (i : ℕ) → Type 0
-EntryRight l i = LaidOut (entryOf l i) × (rangeOf l i .smallest ≤ rangeOf l i .largest)
+EntryRight l i = LaidOut (entryOf l i) × (TakenIn (edition l) (entryOf l i) × (rangeOf l i .smallest ≤ rangeOf l i .largest))
 
 -- The entries below n are right.
 abbrev pub RightTo : (l : List ℕ) (n : ℕ) → Type 0

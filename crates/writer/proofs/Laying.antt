@@ -13,14 +13,15 @@ use Rattle.places.specs.Parts.{cut, joined}
 use Rattle.places.specs.Tab.{over}
 use Rattle.places.proofs.Overs.{length-over, over-append, over-apart, over-nothing, over-tail}
 use Rattle.places.proofs.Parts.{length-joined, length-cut}
-use Rattle.contents.specs.Bytes.{headBytes, entryBytes}
+use Rattle.contents.specs.Bytes.{headBytes, entryBytes, entryLeaves}
 use Rattle.contents.specs.Contents.{entrySize, contentsSize}
-use Rattle.contents.proofs.Bytes.{length-head, length-entry}
+use Rattle.contents.proofs.Bytes.{length-head, length-entry, entry-fits}
+use Rattle.contents.specs.declared.Entry.{Entry}
 use Rattle.contents.specs.declared.Range.{Range}
-use Rattle.runs.specs.Highest.{highestOf}
-use Rattle.bodies.specs.Ranges.{lowestOf, trueRange}
+use Rattle.bodies.specs.Ranges.{trueRange}
+use Rattle.candidates.specs.declared.Laid.{Laid}
 use Rattle.candidates.specs.declared.Laid.the-variants.{As}
-use Rattle.candidates.specs.Calls.{entryFor, laidOf, layLeaves}
+use Rattle.candidates.specs.Calls.{entryFor, laidOf, layLeaves, entryLaid, rangeLaid}
 use Rattle.candidates.specs.Candidates.{chosen, bodyFor}
 use Rattle.candidates.proofs.Calls.{entry-there, laid-there}
 use Rattle.candidates.proofs.Choice.{body-sized, chosen-short}
@@ -169,30 +170,37 @@ module _ (values : List ℕ) where
       part : i * 1024 + 1024 - i * 1024 ≡ 1024
       part = omega arith
 
-  -- whose smallest and largest number are its true range.
-  pub range-lent : (i : ℕ) (r : Range)
-      → (r .smallest ≡ lowestOf (take (i * 1024 + 1024 - i * 1024) (drop (i * 1024) values)))
-      × (r .largest ≡ highestOf (take (i * 1024 + 1024 - i * 1024) (drop (i * 1024) values)))
-      → r ≡ trueRange (blockAt values i)
-  range-lent i r e =
-      (λ j. record { smallest = e .0 j; largest = e .1 j }) ∙ ap (λ l. trueRange l) (block-lent i)
+  -- and this is its entry.
+  pub entry-lent : (i : ℕ) → i < blockCount values → entryFor (take (i * 1024 + 1024 - i * 1024) (drop (i * 1024) values)) ≡ chosen (blockAt values i) .entry
+  entry-lent i h = ap entryFor (block-lent i) ∙ entry-there (blockAt values i) (length-cut 1024 values i (omega arith))
 
-  -- Block i is laid down through the tail of the output,
-  pub one-laid : (i at : ℕ) (old : List ℕ) → i < blockCount values → at + chosen (blockAt values i) .entry .length ≤ length old
-      → (laidOf (blockAt values i) (midOf at (length old - at) old) ≡ As (chosen (blockAt values i) .entry))
-      × (putMid at (length old - at) old (layLeaves (blockAt values i) (midOf at (length old - at) old)) ≡ over at (bodyFor (blockAt values i)) old)
-  one-laid i at old h room =
-      let block : List ℕ = blockAt values i in
+-- A block is laid down through the tail of the output, and its entry and its range in their own place.
+module _ (block : List ℕ) (long : length block ≡ 1024) (at : ℕ) (old : List ℕ) (room : at + chosen block .entry .length ≤ length old) where
+  one-laid : (laidOf block (midOf at (length old - at) old) ≡ As (chosen block .entry) (trueRange block))
+      × (putMid at (length old - at) old (layLeaves block (midOf at (length old - at) old)) ≡ over at (bodyFor block) old)
+  one-laid =
       let tail : midOf at (length old - at) old ≡ drop at old = take-all (length old - at) (drop at old) (omega (arith, length-drop at old)) in
       let short : length (drop at old) ≤ length old - at = omega (arith, length-drop at old) in
       let rest : postOf at (length old - at) old ≡ [] = drop-of-length-le (drop at old) short in
-      let l = laid-there block (drop at old) (length-cut 1024 values i (omega arith)) (omega (arith, length-drop at old)) in (
+      let l = laid-there block (drop at old) long (omega (arith, length-drop at old)) in (
         ap (laidOf block) tail ∙ l .0,
         ap₂ (λ x y. take at old ++ (x ++ y)) (ap (layLeaves block) tail ∙ l .1) rest
             ∙ ap (λ x. take at old ++ x) (append-nil (over 0 (bodyFor block) (drop at old)))
             ∙ over-tail at (bodyFor block) old,
       )
 
-  -- and this is its entry.
-  pub entry-lent : (i : ℕ) → i < blockCount values → entryFor (take (i * 1024 + 1024 - i * 1024) (drop (i * 1024) values)) ≡ chosen (blockAt values i) .entry
-  entry-lent i h = ap entryFor (block-lent i) ∙ entry-there (blockAt values i) (length-cut 1024 values i (omega arith))
+  pub one-written : (i : ℕ) {given : Laid} {body : List ℕ} {e : Entry} {r : Range} → contentsSize 2 (i + 1) ≤ at
+      → given ≡ laidOf block (midOf at (length old - at) old) → body ≡ layLeaves block (midOf at (length old - at) old)
+      → e ≡ entryLaid given → r ≡ rangeLaid given
+      → (e .length ≡ chosen block .entry .length)
+      × (entryLeaves e r (contentsSize 2 i) (putMid at (length old - at) old body) ≡ over (contentsSize 2 i) (writtenEntry block) (over at (bodyFor block) old))
+  unfolding contentsSize entrySize
+  one-written i {given} {body} {e} {r} before eg eb ee er =
+      let entry : e ≡ chosen block .entry = ee ∙ ap entryLaid (eg ∙ one-laid .0) in
+      let range : r ≡ trueRange block = er ∙ ap rangeLaid (eg ∙ one-laid .0) in (
+        ap (λ e. e .length) entry,
+        ap₂ (λ e r. entryLeaves e r (contentsSize 2 i) (putMid at (length old - at) old body)) entry range
+            ∙ ap (entryLeaves (chosen block .entry) (trueRange block) (contentsSize 2 i)) (ap (putMid at (length old - at) old) eb ∙ one-laid .1)
+            ∙ entry-fits (chosen block .entry) (trueRange block) (contentsSize 2 i) (over at (bodyFor block) old)
+            (omega (arith, length-over at (bodyFor block) old (omega (arith, body-sized block)))),
+      )

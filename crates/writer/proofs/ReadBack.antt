@@ -19,12 +19,13 @@ use Rattle.places.proofs.Tabs.{is-tab}
 use Rattle.contents.specs.declared.FileAnswer.the-variants.{Done}
 use Rattle.contents.specs.Answers.{fileAnswer}
 use Rattle.contents.specs.Bytes.{headBytes}
-use Rattle.contents.specs.Contents.{edition, count, contentsSize, entryAt, entryOf, rangeAt, anyRange, rangeOf, isLaidOut, isOrdered, isRight, bodiesSize, bodyStart, contentsTests}
+use Rattle.contents.specs.Contents.{edition, count, contentsSize, entryAt, entryOf, rangeAt, anyRange, rangeOf, isLaidOut, isTakenIn, isOrdered, isRight, bodiesSize, bodyStart, contentsTests}
 use Rattle.contents.specs.First.{firstBad}
 use Rattle.contents.proofs.Accepted.{Whole, accepts, done-both}
 use Rattle.contents.proofs.Answers.{passed, none-left}
 use Rattle.contents.proofs.Bytes.{RangeFits, head-edition, head-count, entry-back, range-back}
 use Rattle.contents.proofs.First.{first-only}
+use Rattle.contents.proofs.Laid.{taken-plain}
 use Rattle.contents.proofs.Sizes.{size-least}
 use Rattle.runs.specs.Highest.{highestOf}
 use Rattle.runs.proofs.Highs.{highest-below}
@@ -33,7 +34,7 @@ use Rattle.bodies.specs.Ranges.{lowestOf, trueRange, isRange}
 use Rattle.bodies.proofs.Lows.{lowest-element}
 use Rattle.candidates.specs.Candidates.{chosen, bodyFor}
 use Rattle.candidates.proofs.Calls.{lowest-highest}
-use Rattle.candidates.proofs.Choice.{body-sized, chosen-laid, chosen-fits, chosen-runs}
+use Rattle.candidates.proofs.Choice.{body-sized, chosen-kind, chosen-laid, chosen-fits, chosen-runs}
 use Rattle.candidates.proofs.Least.{chosen-restores}
 use Rattle.files.specs.Files.{bodyOf, blockIn, rowAt, rowsOf, badRuns, hasTrueRange, badRange, fileTests}
 use Rattle.writer.specs.Writer.{blockCount, blockAt, entriesFor, bodiesFor, fileOf}
@@ -70,10 +71,10 @@ module _ (values : List ℕ) (n : ℕ) (whole : length values ≡ n * 1024) (few
   length-is : length file ≡ contentsSize 2 n + length (bodiesFor values n)
   length-is = length-file values ∙ ap (λ k. contentsSize 2 k + length (bodiesFor values k)) blocks
 
-  edition-is : edition file ≡ 2
+  pub edition-is : edition file ≡ 2
   edition-is = ap edition head-first ∙ head-edition n (entriesFor values n ++ bodiesFor values n)
 
-  count-is : count file ≡ n
+  pub count-is : count file ≡ n
   count-is = ap count head-first ∙ head-count n (entriesFor values n ++ bodiesFor values n) (omega arith)
 
   -- Entry i stands behind the entries in front of it,
@@ -123,7 +124,9 @@ module _ (values : List ℕ) (n : ℕ) (whole : length values ≡ n * 1024) (few
       let block : List ℕ = blockAt values i in
       ap₂ both
       (ap isLaidOut (entry-read i h) ∙ chosen-laid block)
-      (ap (λ r. isOrdered r) (range-read i h) ∙ le-leb (lowestOf block) (highestOf block) (lowest-highest block (block-long i h)))
+      (ap₂ both
+      (ap₂ (λ e x. isTakenIn e x) edition-is (entry-read i h) ∙ taken-plain 2 (chosen block .entry) .1 (λ _. omega (arith, chosen-kind block)))
+      (ap (λ r. isOrdered r) (range-read i h) ∙ le-leb (lowestOf block) (highestOf block) (lowest-highest block (block-long i h))))
 
   -- and the body begins where it was laid.
   sizes : (i : ℕ) → i ≤ n → bodiesSize file i ≡ length (bodiesFor values i)

@@ -1,7 +1,6 @@
 // The column file is written (document 02, Items 3 and 9): 1,024·N numbers become an edition 2 file. Each block is laid down as
 // the crate candidates chooses, and its entry says its smallest and its largest number. The file's length is known before the
 // first byte is written, so a refused call writes nothing. For that each block is measured twice.
-use bodies::range_of;
 use candidates::entry_for;
 use candidates::lay_block;
 use contents::FileAnswer;
@@ -118,7 +117,8 @@ fn lay_one(values: &[u64], i: usize, at: usize, output: &mut [u8]) -> usize
 {
     let from = i * 1024;
     let to = from + 1024;
-    let e = lay_block(&values[from..to], &mut output[at..]).entry();
-    put_entry(e, range_of(&values[from..to]), 4 + i * 32, output);
+    let laid = lay_block(&values[from..to], &mut output[at..]);
+    let e = laid.entry();
+    put_entry(e, laid.range(), 4 + i * 32, output);
     e.length as usize
 }

@@ -11,7 +11,7 @@ use Rattle.little.specs.Little.{writeLeaves}
 use Rattle.candidates.specs.declared.Laid.the-variants.{As}
 use Rattle.candidates.specs.Candidates.{baseOf}
 use Rattle.candidates.specs.InnerMeasures.{entryBy, wordsBy}
-use Rattle.candidates.proofs.Calls.{measured-most, bad-values, no-room, laid}
+use Rattle.candidates.proofs.Calls.{measured-most, measured-range, bad-values, no-room, laid}
 use Rattle.candidates.proofs.Choice.{entry-chosen, words-chosen}
 use Rattle.candidates.proofs.lay_block.Statement.{statement}
 use Rattle.candidates.proofs.lay_block.Tie as tie
@@ -69,7 +69,7 @@ returns-3 c =
     let entry = e .entry-by .ensures ∙ ap entryBy (m .measure .ensures .0) ∙ entry-chosen values in
     let words = ap₂ (λ x d. wordsBy x values d) (m .measure .ensures .0) (m .measure .ensures .1) ∙ words-chosen values in
     let given = laid values (now (args .output)) (omega arith) (omega (arith, ap (λ e. e .length) entry)) in (
-      ap As entry ∙ given .0,
+      ap₂ As entry (measured-range (m .measure .result) values (m .measure .ensures .0)) ∙ given .0,
       out .lay-shortest .ensures ∙ ap (λ x. writeLeaves 8 x (now (args .output))) words ∙ given .1,
     )
 

@@ -1,23 +1,17 @@
 -- `writer::lay_one` meets its contract: the body is laid down from its place on, and then the entry and its range in its own.
 -- Assumes nothing.
-use mathlib.Core.Path.{ap, ap₂, _∙_}
+use mathlib.Core.Path.{ap, _∙_}
 use Prim.Native.Nat.{_-_}
 use native.Mathlib.Omega.{arith}
 use denote.Ref.{now}
 use lib.ListN.{length}
 use borrow.Author.Needs.{needs}
-use borrow.Rule.Slice.PartMut.{midOf, putMid}
-use Rattle.places.specs.Tab.{over}
-use Rattle.places.proofs.Overs.{length-over}
-use Rattle.contents.specs.Bytes.{entryLeaves}
+use borrow.Rule.Slice.PartMut.{midOf}
+use Rattle.places.proofs.Parts.{length-cut}
 use Rattle.contents.specs.Contents.{entrySize, contentsSize}
-use Rattle.contents.proofs.Bytes.{entry-fits}
-use Rattle.bodies.specs.Ranges.{trueRange}
-use Rattle.candidates.specs.Calls.{laidOf, layLeaves, entryLaid}
-use Rattle.candidates.specs.Candidates.{chosen, bodyFor}
-use Rattle.candidates.proofs.Choice.{body-sized}
+use Rattle.candidates.specs.Calls.{laidOf, layLeaves}
 use Rattle.writer.specs.Writer.{blockAt}
-use Rattle.writer.proofs.Laying.{block-lent, range-lent, one-laid}
+use Rattle.writer.proofs.Laying.{block-lent, one-written}
 use Rattle.writer.proofs.lay_one.Statement.{statement}
 use Rattle.writer.proofs.lay_one.Tie as tie
 
@@ -54,20 +48,8 @@ lay-block-requires c κs = search needs
 entry-requires : tie.Need-entry-requires
 entry-requires c κs = search needs
 
-mul-range-of : tie.Need-mul-range-of
-mul-range-of c = search needs
-
-sub-range-of : tie.Need-sub-range-of
-sub-range-of c = search needs
-
-part-range-of-start : tie.Need-part-range-of-start
-part-range-of-start c = search needs
-
-part-range-of-end : tie.Need-part-range-of-end
-part-range-of-end c = search needs
-
-range-of-requires : tie.Need-range-of-requires
-range-of-requires c κs = search needs
+range-requires : tie.Need-range-requires
+range-requires c κs = search needs
 
 mul-put-entry : tie.Need-mul-put-entry
 mul-put-entry c = search needs
@@ -89,25 +71,19 @@ unfolding contentsSize entrySize
 returns c =
     let out = c .before .before .before in
     let range = out .before .before in
-    let entry = range .before .before in
+    let entry = range .before in
     let body = entry .before .before .before in
     let start = body .before .before .before .before .before in
-    let args = start .args in
-    let values = now (args .values) in
-    let old = now (args .output) in
-    let block = blockAt values (args .i) in
-    let one = one-laid values (args .i) (args .at) old (start .pre .0) (start .pre .1 .1) in
-    let given = entry .entry .ensures
-    ∙ ap entryLaid (body .lay-block .ensures .0 ∙ ap (λ l. laidOf l (midOf (args .at) (length old - args .at) old)) (block-lent values (args .i)) ∙ one .0) in
-    let laid = ap (putMid (args .at) (length old - args .at) old)
-    (body .lay-block .ensures .1 ∙ ap (λ l. layLeaves l (midOf (args .at) (length old - args .at) old)) (block-lent values (args .i)))
-    ∙ one .1 in (
-      ap (λ e. e .length) given,
-      out .put-entry .ensures
-          ∙ ap₂ (λ e l. entryLeaves e (range .range-of .result) (contentsSize 2 (args .i)) l) given laid
-          ∙ ap (λ r. entryLeaves (chosen block .entry) r (contentsSize 2 (args .i)) (over (args .at) (bodyFor block) old)) (range-lent values (args .i) (range .range-of .result) (range .range-of .ensures))
-          ∙ entry-fits (chosen block .entry) (trueRange block) (contentsSize 2 (args .i)) (over (args .at) (bodyFor block) old) (omega (arith, start .pre .1, length-over (args .at) (bodyFor block) old (omega (arith, start .pre .1, body-sized block)))),
-    )
+    let values = now (start .args .values) in
+    let old = now (start .args .output) in
+    let at = start .args .at in
+    let lent = block-lent values (start .args .i) in
+    let one = one-written (blockAt values (start .args .i)) (length-cut 1024 values (start .args .i) (omega arith)) at old (start .pre .1 .1) (start .args .i) (start .pre .1 .0)
+    (body .lay-block .ensures .0 ∙ ap (λ l. laidOf l (midOf at (length old - at) old)) lent)
+    (body .lay-block .ensures .1 ∙ ap (λ l. layLeaves l (midOf at (length old - at) old)) lent)
+    (entry .entry .ensures)
+    (range .range .ensures) in
+    (one .0, out .put-entry .ensures ∙ one .1)
 
 pub lay-one-spec : {M : Type 1} → statement M
 lay-one-spec =
@@ -124,11 +100,7 @@ lay-one-spec =
     part-lay-block-end-2
     lay-block-requires
     entry-requires
-    mul-range-of
-    sub-range-of
-    part-range-of-start
-    part-range-of-end
-    range-of-requires
+    range-requires
     mul-put-entry
     add-put-entry
     put-entry-requires

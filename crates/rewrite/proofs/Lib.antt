@@ -1,0 +1,3 @@
+pub mod Calls
+pub mod Item11
+pub mod Rows

@@ -1,0 +1,29 @@
+-- What the rewrite of a column file answers and leaves (document 02, Item 11). `l` is the file, a list of bytes.
+-- Assumes nothing.
+use mathlib.Core.List.{List, [], _∷_, _++_}
+use Prim.Native.Nat.{ℕ}
+use lib.ListN.{length}
+use Rattle.places.specs.Pick.{pick}
+use Rattle.places.specs.Tab.{over}
+use Rattle.contents.specs.Answers.{FileTest, a-room, fileAnswer, isDone, left}
+use Rattle.files.specs.Files.{rowsOf, fileTests}
+use Rattle.writer.specs.declared.Written.{Written}
+use Rattle.writer.specs.declared.Written.the-variants.{Length, Refused}
+use Rattle.writer.specs.Writer.{fileOf}
+
+-- The new file is the one that the writer gives for the rows of the old one.
+abbrev pub newFile : (l : List ℕ) → List ℕ
+newFile l = fileOf (rowsOf l)
+
+-- The tests are those of the reader, and behind them whether the output has room for the new file.
+abbrev pub rewriteTests : (l output : List ℕ) → List FileTest
+rewriteTests l output = fileTests l ++ (a-room (length (newFile l)) (length output) ∷ [])
+
+-- The call gives the new file's length, or the refusal,
+unfoldable pub rewrittenOf : (l output : List ℕ) → Written
+rewrittenOf l output =
+    pick (isDone (fileAnswer (rewriteTests l output))) (Length (length (newFile l))) (Refused (fileAnswer (rewriteTests l output)))
+
+-- and leaves the new file at the front of the output; the bytes behind it stay.
+unfoldable pub rewriteLeaves : (l output : List ℕ) → List ℕ
+rewriteLeaves l output = left (fileAnswer (rewriteTests l output)) (over 0 (newFile l) output) output
