@@ -14,7 +14,7 @@ use Rattle.places.specs.Pick.{pick, both, either}
 use Rattle.places.specs.Tab.{over}
 use Rattle.little.specs.Little.{little}
 use Rattle.contents.specs.Answers.{good-runs, true-ranges, enough, an-edition, laid-out, an-end, a-room, fileAnswer, isDone, left}
-use Rattle.contents.specs.Contents.{edition, count, contentsSize, entryAt, entryOf, rangeAt, rangeOf, anyRange, isLaidOut, isOrdered, isRight, badEntry, bodiesSize, bodyStart, contentsTests}
+use Rattle.contents.specs.Contents.{edition, count, contentsSize, entryAt, entryOf, rangeAt, rangeOf, anyRange, isLaidOut, isTakenIn, isOrdered, isRight, badEntry, bodiesSize, bodyStart, contentsTests}
 use Rattle.contents.specs.First.{firstBad}
 use Rattle.contents.proofs.First.{first-ext}
 use Rattle.contents.proofs.Sizes.{size-entry, size-range, size-before}
@@ -87,7 +87,7 @@ module _ (l m : List ℕ) (low high : ℕ) (same : SameOpened l m low high) wher
 
     right-same : isRight m i ≡ isRight l i
     unfolding isRight
-    right-same = ap₂ (λ e r. both (isLaidOut e) (isOrdered r)) entry-same range-same
+    right-same j = both (isLaidOut (entry-same j)) (both (isTakenIn (edition-same j) (entry-same j)) (isOrdered (range-same j)))
 
     opens-same : opens m low high i ≡ opens l low high i
     unfolding opens
