@@ -11,8 +11,8 @@ use borrow.Author.Tests.{eq-eqb, ne-eqb}
 use Rattle.places.specs.Answers.{unless}
 use Rattle.places.specs.Pick.{pick}
 use Rattle.contents.specs.declared.FileAnswer.{FileAnswer}
-use Rattle.contents.specs.declared.FileAnswer.the-variants.{Done, Block, Cut, Edition, BadEntry, Over, Beyond, Runs, Room, Range}
-use Rattle.contents.specs.Answers.{FileTest, a-block, enough, an-edition, laid-out, an-end, a-number, good-runs, true-ranges, whole-blocks, a-room, passes, refusal, fileAnswer, numberOf, isDone, left}
+use Rattle.contents.specs.declared.FileAnswer.the-variants.{Done, Block, Cut, Edition, BadEntry, Over, Beyond, Runs, Room, Range, Foreign}
+use Rattle.contents.specs.Answers.{FileTest, a-block, enough, an-edition, laid-out, an-end, a-number, good-runs, true-ranges, a-second-edition, as-written, whole-blocks, a-room, passes, refusal, fileAnswer, numberOf, isDone, left}
 
 module _ (x : FileTest) (xs : List FileTest) where
   pub passed : passes x ≡ true → fileAnswer (x ∷ xs) ≡ fileAnswer xs
@@ -37,6 +37,8 @@ refusal-not-done (an-end end there) e = let z : _≡_ {A = ℕ} 0 1 = cc in omeg
 refusal-not-done (a-number number count) e = let z : _≡_ {A = ℕ} 0 1 = cc in omega arith
 refusal-not-done (good-runs lowest count) e = let z : _≡_ {A = ℕ} 0 1 = cc in omega arith
 refusal-not-done (true-ranges lowest count) e = let z : _≡_ {A = ℕ} 0 1 = cc in omega arith
+refusal-not-done (a-second-edition edition) e = let z : _≡_ {A = ℕ} 0 1 = cc in omega arith
+refusal-not-done (as-written lowest count) e = let z : _≡_ {A = ℕ} 0 1 = cc in omega arith
 refusal-not-done (whole-blocks numbers) e = let z : _≡_ {A = ℕ} 0 1 = cc in omega arith
 refusal-not-done (a-room needed there) e = let z : _≡_ {A = ℕ} 0 1 = cc in omega arith
 
@@ -75,6 +77,7 @@ number-done Beyond e = absurd (omega arith)
 number-done (Runs p) e = absurd (omega arith)
 number-done Room e = absurd (omega arith)
 number-done (Range p) e = absurd (omega arith)
+number-done (Foreign p) e = absurd (omega arith)
 
 -- What is given back is something where the answer is done and the refusal where it is not, so it says the answer.
 pub says-answer : {R : Type 0} (answerOf : R → FileAnswer) (done : R) (refused : FileAnswer → R)

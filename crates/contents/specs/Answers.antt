@@ -1,4 +1,4 @@
--- What a call on a column file answers: document 02's numbers and places, the tests that it makes (Items 1, 3, 9 and 11,
+-- What a call on a column file answers: document 02's numbers and places, the tests that it makes (Items 1, 3, 9, 11 and 14,
 -- "Refusals, in order"), and what it leaves in a lent buffer. The tests of a call stand in a list, in the order of its item, which is not that of the numbers.
 -- Assumes nothing.
 use mathlib.Core.Bool.{Bool}
@@ -9,7 +9,7 @@ use lib.ListN.{length}
 use Rattle.places.specs.Answers.{firstRefusal}
 use Rattle.places.specs.Pick.{pick, both, either}
 use Rattle.contents.specs.declared.FileAnswer.{FileAnswer}
-use Rattle.contents.specs.declared.FileAnswer.the-variants.{Done, Block, Cut, Edition, BadEntry, Over, Beyond, Runs, Room, Range}
+use Rattle.contents.specs.declared.FileAnswer.the-variants.{Done, Block, Cut, Edition, BadEntry, Over, Beyond, Runs, Room, Range, Foreign}
 
 -- Each case of an answer has a number.
 abbrev pub numberOf : FileAnswer → ℕ
@@ -23,9 +23,10 @@ numberOf Beyond = 12
 numberOf (Runs p) = 13
 numberOf Room = 14
 numberOf (Range p) = 15
+numberOf (Foreign p) = 17
 
--- With the number a place is returned. It is 0 for every number but 10, whose place is the entry, and 13 and 15, whose place is the
--- block.
+-- With the number a place is returned. It is 0 for every number but 10, whose place is the entry, and 13, 15 and 17, whose place is
+-- the block.
 abbrev pub placeOf : FileAnswer → ℕ
 placeOf Done = 0
 placeOf Block = 0
@@ -37,6 +38,7 @@ placeOf Beyond = 0
 placeOf (Runs p) = p
 placeOf Room = 0
 placeOf (Range p) = p
+placeOf (Foreign p) = p
 
 -- These are the things that a call on a file tests.
 pub data FileTest : Type 0 where
@@ -57,6 +59,10 @@ pub data FileTest : Type 0 where
   good-runs : (lowest count : ℕ) → FileTest
   -- Every smallest and largest value is the body's true one. `lowest` is the lowest block where one is not, and the count where there is none.
   true-ranges : (lowest count : ℕ) → FileTest
+  -- The edition is 2.
+  a-second-edition : (edition : ℕ) → FileTest
+  -- Every block is as our writer would write it. `lowest` is the lowest that is not, and the count where there is none.
+  as-written : (lowest count : ℕ) → FileTest
   -- So many numbers are whole blocks, and these are at most 256.
   whole-blocks : (numbers : ℕ) → FileTest
   -- The output has room for as many bytes, or rows, as are needed.
@@ -72,6 +78,8 @@ passes (an-end end there) = leb there end
 passes (a-number asked count) = ltb asked count
 passes (good-runs lowest count) = eqb lowest count
 passes (true-ranges lowest count) = eqb lowest count
+passes (a-second-edition edition) = eqb edition 2
+passes (as-written lowest count) = eqb lowest count
 passes (whole-blocks numbers) = both (eqb (numbers % 1024) 0) (leb numbers 262144)
 passes (a-room needed there) = leb needed there
 
@@ -85,6 +93,8 @@ refusal (an-end end there) = Over
 refusal (a-number asked count) = Beyond
 refusal (good-runs lowest count) = Runs lowest
 refusal (true-ranges lowest count) = Range lowest
+refusal (a-second-edition edition) = Edition
+refusal (as-written lowest count) = Foreign lowest
 refusal (whole-blocks numbers) = Block
 refusal (a-room needed there) = Room
 

@@ -40,6 +40,8 @@ pub enum FileAnswer {
     Room,
     // a smallest or largest value is not the body's true one; the lowest block that has one
     Range(usize),
+    // a block is not as our writer would write it; the lowest such block
+    Foreign(usize),
 }
 
 impl FileAnswer {
@@ -58,6 +60,7 @@ impl FileAnswer {
             FileAnswer::Runs(_) => 13,
             FileAnswer::Room => 14,
             FileAnswer::Range(_) => 15,
+            FileAnswer::Foreign(_) => 17,
         }
     }
 
@@ -69,6 +72,7 @@ impl FileAnswer {
             FileAnswer::BadEntry(p) => p,
             FileAnswer::Runs(p) => p,
             FileAnswer::Range(p) => p,
+            FileAnswer::Foreign(p) => p,
             FileAnswer::Done => 0,
             FileAnswer::Block => 0,
             FileAnswer::Cut => 0,

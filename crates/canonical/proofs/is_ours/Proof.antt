@@ -1,0 +1,136 @@
+-- `canonical::is_ours` meets its contract: the block is laid down, and the writer's entry and body for it are held to those of the file.
+-- Assumes nothing.
+use mathlib.Core.Path.{_≡_, sym, ap, ap₂, _∙_}
+use native.Mathlib.Omega.{arith}
+use denote.Ref.{now}
+use lib.ListN.{length, take, replicate}
+use borrow.Author.Needs.{needs}
+use borrow.Author.Tests.{not-true, not-false}
+use Rattle.places.specs.Numbers.{Elements}
+use Rattle.places.specs.Pick.{both}
+use Rattle.places.specs.Tab.{over}
+use Rattle.places.proofs.Overs.{over-front}
+use Rattle.contents.specs.Contents.{entryOf}
+use Rattle.bodies.specs.Ranges.{trueRange}
+use Rattle.candidates.specs.declared.Laid.the-variants.{As}
+use Rattle.candidates.specs.Calls.{laidOf, layLeaves, entryLaid}
+use Rattle.candidates.specs.Candidates.{chosen, bodyFor}
+use Rattle.candidates.proofs.Calls.{laid-there}
+use Rattle.candidates.proofs.Choice.{body-sized, chosen-short}
+use Rattle.files.specs.Files.{bodyOf, blockIn}
+use Rattle.files.proofs.Files.{entry-read, body-long}
+use Rattle.files.proofs.Froms.{body-from-is}
+use Rattle.rewrite.proofs.Rows.{right, block-long, block-laid}
+use Rattle.canonical.specs.Canonical.{isSameEntry, isSame, isOurs}
+use Rattle.canonical.proofs.Same.{entry-same}
+use Rattle.canonical.proofs.is_ours.Statement.{statement}
+use Rattle.canonical.proofs.is_ours.Tie as tie
+
+-- the writer's entry for block i was given, and its body laid down
+laid-is : (c : tie.After-lay-block) → (c .lay-block .result ≡ As (chosen (blockIn (now (c .before .before .before .before .before .before .before .args .file)) (c .before .before .before .before .before .before .before .args .i)) .entry) (trueRange (blockIn (now (c .before .before .before .before .before .before .before .args .file)) (c .before .before .before .before .before .before .before .args .i)))) × (c .lay-block .last .1 .0 ≡ over 0 (bodyFor (blockIn (now (c .before .before .before .before .before .before .before .args .file)) (c .before .before .before .before .before .before .before .args .i))) (replicate 8192 0))
+laid-is c =
+    let made = c .before .before .before .before in
+    let known = made .before .before in
+    let start = known .before in
+    let l = now (start .args .file) in
+    let i = start .args .i in
+    let bytes : Elements 8 l = λ k. omega (arith, known .shared-slice-known .given k) in
+    let block = block-laid l (start .pre .0) bytes i (start .pre .1 .0) (start .pre .1 .1) (made .block-from .ensures .1) in
+    let is = laid-there (blockIn l i) (replicate 8192 0) (block-long l (start .pre .0) bytes i (start .pre .1 .0)) (chosen-short (blockIn l i)) in (
+      c .lay-block .ensures .0 ∙ ap (λ b. laidOf b (replicate 8192 0)) block ∙ is .0,
+      c .lay-block .ensures .1 ∙ ap (λ b. layLeaves b (replicate 8192 0)) block ∙ is .1,
+    )
+
+-- the test of the entries
+tested-is : (c : tie.After-same-entry) → c .same-entry .result ≡ isSameEntry (entryOf (now (c .before .before .before .before .before .before .before .before .before .before .before .args .file)) (c .before .before .before .before .before .before .before .before .before .before .before .args .i)) (chosen (blockIn (now (c .before .before .before .before .before .before .before .before .before .before .before .args .file)) (c .before .before .before .before .before .before .before .before .before .before .before .args .i)) .entry)
+tested-is c =
+    let read = c .before in
+    let given = read .before in
+    let laid = given .before .before in
+    let start = laid .before .before .before .before .before .before .before in
+    c .same-entry .ensures
+    ∙ ap₂ isSameEntry (read .entry-or .ensures ∙ entry-read (now (start .args .file)) (right (now (start .args .file)) (start .pre .0)) (start .args .i) (start .pre .1 .0))
+    (given .entry .ensures ∙ ap entryLaid (laid-is laid .0))
+
+slice-aggregate-block-from : tie.Need-slice-aggregate-block-from
+slice-aggregate-block-from c = search needs
+
+block-from-requires : tie.Need-block-from-requires
+block-from-requires c κs = search needs
+
+slice-aggregate-lay-block : tie.Need-slice-aggregate-lay-block
+slice-aggregate-lay-block c = search needs
+
+slice-aggregate-lay-block-2 : tie.Need-slice-aggregate-lay-block-2
+slice-aggregate-lay-block-2 c = search needs
+
+lay-block-requires : tie.Need-lay-block-requires
+lay-block-requires c κs = search needs
+
+entry-requires : tie.Need-entry-requires
+entry-requires c κs = search needs
+
+entry-or-requires : tie.Need-entry-or-requires
+entry-or-requires c κs = search needs
+
+same-entry-requires : tie.Need-same-entry-requires
+same-entry-requires c κs = search needs
+
+returns : tie.Need-returns
+unfolding isOurs
+returns c =
+    let tested = c .before in
+    let start = tested .before .before .before .before .before .before .before .before .before .before .before in
+    let l = now (start .args .file) in
+    let i = start .args .i in
+    sym
+    (ap (λ t. both t (isSame (bodyOf l i) (bodyFor (blockIn l i)))) (sym (tested-is tested) ∙ not-true _ (c .if1 .taken)))
+
+body-from-requires : tie.Need-body-from-requires
+body-from-requires c κs = search needs
+
+slice-aggregate-same-front : tie.Need-slice-aggregate-same-front
+slice-aggregate-same-front c = search needs
+
+same-front-requires : tie.Need-same-front-requires
+same-front-requires c κs = search needs
+
+returns-2 : tie.Need-returns-2
+unfolding isOurs
+returns-2 c =
+    let lent = c .before .before in
+    let other = lent .before in
+    let tested = other .before in
+    let laid = tested .before .before .before .before in
+    let start = laid .before .before .before .before .before .before .before in
+    let l = now (start .args .file) in
+    let i = start .args .i in
+    let done = start .pre .0 in
+    let h = start .pre .1 .0 in
+    let same = sym (tested-is tested) ∙ not-false _ (other .if1 .left) in
+    let entries = entry-same (entryOf l i) (chosen (blockIn l i) .entry) .0 same in
+    let long : length (bodyOf l i) ≡ length (bodyFor (blockIn l i)) =
+    body-long l (right l done) i h ∙ ap (λ e. e .length) entries ∙ sym (body-sized (blockIn l i)) in
+    c .same-front .ensures
+    ∙ ap₂ (λ x y. isSame x (take (length x) y)) (lent .body-from .ensures ∙ body-from-is l (right l done) i h (start .args .at) (start .pre .1 .1)) (laid-is laid .1)
+    ∙ ap (λ n. isSame (bodyOf l i) (take n (over 0 (bodyFor (blockIn l i)) (replicate 8192 0)))) long
+    ∙ ap (isSame (bodyOf l i)) (over-front (bodyFor (blockIn l i)) (replicate 8192 0))
+    ∙ sym (ap (λ t. both t (isSame (bodyOf l i) (bodyFor (blockIn l i)))) same)
+
+pub is-ours-spec : {M : Type 1} → statement M
+is-ours-spec =
+    tie.close
+    (tie.spec
+    slice-aggregate-block-from
+    block-from-requires
+    slice-aggregate-lay-block
+    slice-aggregate-lay-block-2
+    lay-block-requires
+    entry-requires
+    entry-or-requires
+    same-entry-requires
+    returns
+    body-from-requires
+    slice-aggregate-same-front
+    same-front-requires
+    returns-2)

@@ -1,0 +1,100 @@
+// Whether a column file that another program wrote is, byte for byte, what our writer would give for the rows that it holds
+// (document 02, Item 14). The reader's check comes first. Then each block is laid down, the writer's entry and body for it are
+// made, and both are held to those of the file: there is room for one block and one body, and never for a whole file.
+use candidates::lay_block;
+use contents::Entry;
+use contents::FileAnswer;
+use contents::contents_length;
+use contents::count;
+use contents::edition;
+use contents::entry_or;
+use files::block_from;
+use files::body_from;
+ghost use mathlib.Core.Path.{_≡_};
+ghost use Prim.Native.Nat.{_<_};
+ghost use lib.ListN.{length, take};
+ghost use Rattle.contents.specs.declared.FileAnswer.the-variants.{Done};
+ghost use Rattle.contents.specs.Answers.{fileAnswer};
+ghost use Rattle.contents.specs.Contents.{count as countIn, bodyStart};
+ghost use Rattle.files.specs.Files.{fileTests};
+ghost use Rattle.canonical.specs.Canonical.{isSameEntry, isSame, isOurs, foreign, canonicalTests};
+
+// Checks that the file is what our writer would give for its rows.
+pub fn check(file: &[u8]) -> FileAnswer
+    ensures { λ r. ⌜ r ≡ fileAnswer (canonicalTests (now (file .entry))) ⌝ }
+{
+    let answer = files::check(file);
+    if answer.number() != 0 {
+        return answer;
+    }
+    if edition(file) != 2 {
+        return FileAnswer::Edition;
+    }
+    let lowest = lowest_foreign(file);
+    if lowest < count(file) {
+        return FileAnswer::Foreign(lowest);
+    }
+    FileAnswer::Done
+}
+
+// The lowest block that is not as our writer would write it, and the count where there is none, in a file that the reader accepts.
+fn lowest_foreign(file: &[u8]) -> usize
+    requires { ⌜ fileAnswer (fileTests (now file)) ≡ Done ⌝ }
+    ensures { λ r. ⌜ r ≡ foreign (now (file .entry)) ⌝ }
+{
+    let n = count(file);
+    let mut at = contents_length(file);
+    let mut i = 0;
+    while i < n {
+        if !is_ours(file, i, at) {
+            return i;
+        }
+        let e = entry_or(file, i);
+        at += e.length as usize;
+        i += 1;
+    }
+    n
+}
+
+// Whether block i, whose body begins at `at`, is as our writer would write it. No body that is chosen is longer than 8,192 bytes.
+fn is_ours(file: &[u8], i: usize, at: usize) -> bool
+    requires { ⌜ fileAnswer (fileTests (now file)) ≡ Done ⌝ }
+    requires { ⌜ i < countIn (now file) ⌝ }
+    requires { ⌜ at ≡ bodyStart (now file) i ⌝ }
+    ensures { λ r. ⌜ r ≡ isOurs (now (file .entry)) i ⌝ }
+{
+    let mut block = [0u64; 1024];
+    block_from(file, i, at, &mut block);
+    let mut body = [0u8; 8192];
+    let ours = lay_block(&block, &mut body).entry();
+    if !same_entry(entry_or(file, i), ours) {
+        return false;
+    }
+    same_front(body_from(file, i, at), &body)
+}
+
+// Whether two entries are the same. The tests are joined by `&`, which makes no branch.
+fn same_entry(a: Entry, b: Entry) -> bool
+    ensures { λ r. ⌜ r ≡ isSameEntry a b ⌝ }
+{
+    (a.kind == b.kind)
+        & ((a.width == b.width)
+            & ((a.zero == b.zero) & ((a.length == b.length) & (a.reference == b.reference))))
+}
+
+// Whether the front of b is a; no list is the front of a shorter one.
+fn same_front(a: &[u8], b: &[u8]) -> bool
+    ensures { λ r. ⌜ r ≡ isSame (now (a .entry)) (take (length (now (a .entry))) (now (b .entry))) ⌝ }
+{
+    if b.len() < a.len() {
+        return false;
+    }
+    let mut i = 0;
+    while i < a.len() {
+        if a[i] != b[i] {
+            return false;
+        }
+        i += 1;
+    }
+    true
+}
