@@ -16,7 +16,7 @@ import sys
 
 EDITIONS = (1, 2)
 EDITION_WRITTEN = 2
-RUNS_IN_EDITION_2 = True
+RUNS_IN_EDITION_2 = False
 
 AS_OF = {"7": ((1,), 1, True), "9": ((1, 2), 2, True), "11": ((1, 2), 2, False)}
 

@@ -6,4 +6,5 @@ pub mod Entries
 pub mod First
 pub mod Fronts
 pub mod Laid
+pub mod Parts
 pub mod Sizes

@@ -240,28 +240,31 @@ pub fn any_range() -> Range
     }
 }
 
-// The entry whose first sixteen bytes are there, from place `at` on.
+// The entry whose first sixteen bytes are there, from place `at` on. They are read through a part of that length: of a part whose
+// length the compiler knows no read has to test whether its bytes are there.
 fn entry_at(front: &[u8], at: usize) -> Entry
     requires { ⌜ at + 16 ≤ length (now front) ⌝ }
     ensures { λ r. ⌜ r ≡ entryAt (now (front .entry)) at ⌝ }
 {
+    let part = &front[at..at + 16];
     Entry {
-        kind: front[at],
-        width: front[at + 1],
-        zero: pair(front, at + 2),
-        length: quad(front, at + 4),
-        reference: word(front, at + 8),
+        kind: part[0],
+        width: part[1],
+        zero: pair(part, 2),
+        length: quad(part, 4),
+        reference: word(part, 8),
     }
 }
 
-// The range whose sixteen bytes are there, from place `at` on.
+// The range whose sixteen bytes are there, from place `at` on, read as an entry is.
 fn range_at(front: &[u8], at: usize) -> Range
     requires { ⌜ at + 16 ≤ length (now front) ⌝ }
     ensures { λ r. ⌜ r ≡ rangeAt (now (front .entry)) at ⌝ }
 {
+    let part = &front[at..at + 16];
     Range {
-        smallest: word(front, at),
-        largest: word(front, at + 8),
+        smallest: word(part, 0),
+        largest: word(part, 8),
     }
 }
 

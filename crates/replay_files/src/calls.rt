@@ -1,8 +1,9 @@
 // The calls: what each takes, and how those on files are made. A call has a line in `takes`; one that reads a file has a line
-// in `call`, the one that writes a file is made by `write`, the calls on drawers are made in the modules of the sizes, and those
+// in `call`, those that write a file are made by `write` and `rewrite`, the calls on drawers are made in the modules of the sizes, and those
 // on a body that trickles in in trickles.
 use contents::FileAnswer;
 use files::Row;
+use search::Found;
 use stream::Head;
 use stream::Reply;
 use writer::Written;
@@ -31,6 +32,8 @@ fn takes(op: u8, size: usize) -> Intake {
         17 => Intake::of(1, 0, 8, true),
         18 => Intake::of(1, 0, 0, true),
         19 => Intake::of(8, 0, 1, false),
+        20 => Intake::of(1, 8, 8, false),
+        21 => Intake::of(1, 0, 1, false),
         24 | 25 => Intake::of(size, 0, size, true),
         26 => Intake::of(1, 8, 8, false),
         30 => Intake::of(1, 8, 8, true),
@@ -53,12 +56,18 @@ fn is_trickle_state(head: Head) -> bool {
     head.reference == 1 || (head.reference == 0 && 8192 <= head.n_a)
 }
 
+// Whether the record has the bounds that its call takes: a search has two.
+fn has_bounds(head: Head) -> bool {
+    head.op != 20 || head.n_b == 2
+}
+
 // Whether a record can have this head.
 pub fn is_possible(head: Head) -> bool {
     let takes = takes(head.op, (head.t / 8) as usize);
     (head.t == 64 || (is_drawer(head.op) && is_small(head.t)))
         && (is_drawer(head.op) || is_trickle(head.op) || head.width == 0)
         && (head.op != 30 || is_trickle_state(head))
+        && has_bounds(head)
         && head.zero == 0
         && (takes.index || head.index == 0)
         && fits(head.n_a, takes.a)
@@ -86,14 +95,20 @@ pub fn writes(op: u8) -> bool {
     op == 19
 }
 
+// Whether the call reads a file and writes one. Then both a and c are bytes.
+pub fn rewrites(op: u8) -> bool {
+    op == 21
+}
+
 // Makes the call that reads a file on the buffers that it takes. Where there is no such call, nothing is given back.
-pub fn call(head: Head, a: &[u8], c: &mut [u64]) -> Reply {
+pub fn call(head: Head, a: &[u8], bounds: &[u64; 2], c: &mut [u64]) -> Reply {
     let op = head.op;
     let index = head.index as usize;
     match op {
         16 => reply(files::check(a), 0),
         17 => reply(files::block_out(a, index, c), 0),
         18 => of_row(files::row_at(a, index)),
+        20 => of_found(search::search(a, bounds[0], bounds[1], c)),
         _ => Reply::Unknown,
     }
 }
@@ -101,6 +116,11 @@ pub fn call(head: Head, a: &[u8], c: &mut [u64]) -> Reply {
 // Makes the call that writes a file.
 pub fn write(values: &[u64], output: &mut [u8]) -> Reply {
     of_written(writer::write(values, output))
+}
+
+// Makes the call that rewrites a file.
+pub fn rewrite(file: &[u8], output: &mut [u8]) -> Reply {
+    of_written(rewrite::rewrite(file, output))
 }
 
 // The reply of a call on a file that gives back no reference.
@@ -119,6 +139,11 @@ fn reply(answer: FileAnswer, value: u64) -> Reply
 // Of a refused lookup the value is 0. The count of words is given back as the reference.
 fn of_row(row: Row) -> Reply {
     reply(row.answer(), row.value()).with_reference(row.words())
+}
+
+// Of a refused search no row is listed.
+fn of_found(found: Found) -> Reply {
+    reply(found.answer(), found.rows() as u64)
 }
 
 // Of a refused write the length is 0.

@@ -48,9 +48,14 @@ fn made(head: Head, file: &mut [u8], numbers: &mut [u64], bytes: &mut [u8]) -> S
     }
 }
 
-// The case of a call that reads a file: a is the file, and c are numbers. No such call gives back an index.
+// The case of a call that reads a file: a is the file, b are the bounds of a search, and c are numbers. No such call gives back
+// an index.
 fn read_case(head: Head, a: &mut [u8], c: &mut [u64], bytes: &mut [u8]) -> Step {
     if !read_bytes(head.n_a, a) {
+        return Step::Bad;
+    }
+    let mut bounds = [0u64; 2];
+    if !read_words(head.n_b, bytes, &mut bounds) {
         return Step::Bad;
     }
     if !read_words(head.n_c, bytes, c) {
@@ -59,7 +64,7 @@ fn read_case(head: Head, a: &mut [u8], c: &mut [u64], bytes: &mut [u8]) -> Step 
     if !read_eights(head.n_c, bytes) {
         return Step::Bad;
     }
-    let reply = call_on_parts(head, a, c);
+    let reply = call_on_parts(head, a, &bounds, c);
     judge(head, reply.with_index(head.index), c, bytes)
 }
 
@@ -79,10 +84,10 @@ fn write_case(head: Head, a: &mut [u64], c: &mut [u8], bytes: &mut [u8]) -> Step
 }
 
 // The call on those parts of the buffers that the case fills.
-fn call_on_parts(head: Head, a: &[u8], c: &mut [u64]) -> Reply {
+fn call_on_parts(head: Head, a: &[u8], bounds: &[u64; 2], c: &mut [u64]) -> Reply {
     let n = within_bytes(head.n_a, a);
     let m = within_words(head.n_c, c);
-    call(head, &a[..n], &mut c[..m])
+    call(head, &a[..n], bounds, &mut c[..m])
 }
 
 // The same of the call that writes a file.
@@ -101,7 +106,7 @@ pub fn judge(head: Head, reply: Reply, c: &[u64], c_exit: &[u8]) -> Step
 }
 
 // The same of a call that writes a file, where c has bytes itself.
-fn judge_write(head: Head, reply: Reply, c: &[u8], c_exit: &[u8]) -> Step
+pub fn judge_write(head: Head, reply: Reply, c: &[u8], c_exit: &[u8]) -> Step
     ensures { λ r. ⌜ (r ≡ Same → AsExpected head reply (now (c .entry)) (now («c_exit» .entry)) [] []) ⌝ }
     ensures { λ r. ⌜ (head .«n_c» ≤ length (now (c .entry)) → head .«n_c» ≤ length (now («c_exit» .entry)) → AsExpected head reply (now (c .entry)) (now («c_exit» .entry)) [] [] → r ≡ Same) ⌝ }
 {

@@ -4,17 +4,19 @@
 //
 // The reading ends as a bad stream where the stream is cut, where a record names a call that is not made here, and where
 // there cannot be such a record: t is none of the call's sizes, a byte of zero is not 0, a buffer has more than 2,200,000
-// bytes, or something is given that the call does not take, be it a width, an index or an element of a buffer. Of what is
+// bytes, a search has other than two bounds, or something is given that the call does not take, be it a width, an index or an
+// element of a buffer. Of what is
 // expected nothing is impossible: a value, a place or a reference that the call does not give back is expected to be 0, and
 // a case that expects something else differs.
 //
 // Here stand the loop over the cases and the way to each. Of the modules, wire reads the stream; calls says what each call
-// takes; file_cases makes the calls on files, t8, t16, t32 and t64 those on drawers, and trickles those on a body that comes in
-// chunks; and print prints. The crate stream
-// has the head of a record, the judge and the counts.
+// takes; file_cases makes the calls on files but for the one that rewrites a file, which rewrites makes; t8, t16, t32 and t64
+// make those on drawers, and trickles those on a body that comes in chunks; and print prints. The crate stream has the head of
+// a record, the judge and the counts.
 mod calls;
 mod file_cases;
 mod print;
+mod rewrites;
 mod t16;
 mod t32;
 mod t64;
@@ -25,6 +27,7 @@ mod wire;
 use calls::is_drawer;
 use calls::is_possible;
 use calls::is_trickle;
+use calls::rewrites;
 use print::print_bad;
 use print::print_tally;
 use stream::Head;
@@ -97,6 +100,9 @@ fn case(head: Head) -> Step {
     }
     if is_trickle(head.op) {
         return trickles::case(head);
+    }
+    if rewrites(head.op) {
+        return rewrites::case(head);
     }
     file_cases::case(head)
 }

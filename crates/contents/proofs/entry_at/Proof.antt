@@ -1,38 +1,39 @@
--- `contents::entry_at` meets its contract: field by field.
+-- `contents::entry_at` meets its contract: field by field, read through a part as in `range_at`.
 -- Assumes nothing.
-use mathlib.Core.Path.{_∙_}
-use Prim.Native.Nat.{_+_}
+use mathlib.Core.Path.{_∙_, ap}
+use Prim.Native.Nat.{_+_, _-_}
+use native.Mathlib.Nat.{add-zero}
 use native.Mathlib.Omega.{arith}
 use denote.Ref.{now}
 use lib.ListN.{getD}
 use borrow.Author.Needs.{needs}
-use Rattle.little.proofs.Little.{little-within}
+use Rattle.contents.proofs.Parts.{part-byte, part-number}
 use Rattle.contents.proofs.entry_at.Statement.{statement}
 use Rattle.contents.proofs.entry_at.Tie as tie
 
-shared-slice-read-t4 : tie.Need-shared-slice-read-t4
-shared-slice-read-t4 c = search needs
+add-part : tie.Need-add-part
+add-part c = search needs
 
-add-t5 : tie.Need-add-t5
-add-t5 c = search needs
+sub-part : tie.Need-sub-part
+sub-part c = search needs
 
-shared-slice-read-t7 : tie.Need-shared-slice-read-t7
-shared-slice-read-t7 c = search needs
+part-part-start : tie.Need-part-part-start
+part-part-start c = search needs
 
-add-pair : tie.Need-add-pair
-add-pair c = search needs
+part-part-end : tie.Need-part-part-end
+part-part-end c = search needs
+
+shared-slice-read-t9 : tie.Need-shared-slice-read-t9
+shared-slice-read-t9 c = search needs
+
+shared-slice-read-t11 : tie.Need-shared-slice-read-t11
+shared-slice-read-t11 c = search needs
 
 pair-requires : tie.Need-pair-requires
 pair-requires c κs = search needs
 
-add-quad : tie.Need-add-quad
-add-quad c = search needs
-
 quad-requires : tie.Need-quad-requires
 quad-requires c κs = search needs
-
-add-word : tie.Need-add-word
-add-word c = search needs
 
 word-requires : tie.Need-word-requires
 word-requires c κs = search needs
@@ -41,28 +42,29 @@ returns : tie.Need-returns
 returns c =
     let c2 = c .before in
     let c1 = c2 .before in
-    let args = c1 .before .before .before .before .args in
+    let args = c1 .before .before .before .before .before .args in
     let l = now (args .front) in
     let at = args .at in
+    let n = at + 16 - at in
     λ i. record {
-      kind = getD l at 0;
-      width = getD l (at + 1) 0;
-      zero = (c1 .pair .ensures ∙ little-within l (at + 2) 2 (omega arith)) i;
-      length = (c2 .quad .ensures ∙ little-within l (at + 4) 4 (omega arith)) i;
-      reference = (c .word .ensures ∙ little-within l (at + 8) 8 (omega arith)) i;
+      kind = (part-byte l at n 0 (omega arith) ∙ ap (λ p. getD l p 0) (add-zero at)) i;
+      width = part-byte l at n 1 (omega arith) i;
+      zero = (c1 .pair .ensures ∙ part-number l at n 2 2 (omega arith) (omega arith)) i;
+      length = (c2 .quad .ensures ∙ part-number l at n 4 4 (omega arith) (omega arith)) i;
+      reference = (c .word .ensures ∙ part-number l at n 8 8 (omega arith) (omega arith)) i;
     }
 
 pub entry-at-spec : {M : Type 1} → statement M
 entry-at-spec =
     tie.close
     (tie.spec
-    shared-slice-read-t4
-    add-t5
-    shared-slice-read-t7
-    add-pair
+    add-part
+    sub-part
+    part-part-start
+    part-part-end
+    shared-slice-read-t9
+    shared-slice-read-t11
     pair-requires
-    add-quad
     quad-requires
-    add-word
     word-requires
     returns)
