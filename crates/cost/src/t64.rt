@@ -1,5 +1,5 @@
 // The calls at u64. A call reads the block of values, or the front of it as packed words or as the base, and writes to the
-// block of outputs; encode writes its indices to a block of their own. The calls on drawers stand in the module many.
+// block of outputs. The calls on drawers stand in the module many.
 pub mod many;
 
 use crate::Outcome;
@@ -34,35 +34,16 @@ pub fn run(request: Request) -> Outcome {
     let places = all_places(request.start);
     let numbers = crate::t16::filled(request.start, request.step);
     let mut out: Block = [0; 1024];
-    let mut run_numbers: Runs = [0; 1024];
-    let mut answers = once(
-        request,
-        0,
-        &values,
-        &places,
-        &numbers,
-        &mut out,
-        &mut run_numbers,
-    );
+    let mut answers = once(request, 0, &values, &places, &numbers, &mut out);
     let mut turns = request.turns;
     while turns > 0 {
-        let answer = once(
-            request,
-            turns,
-            &values,
-            &places,
-            &numbers,
-            &mut out,
-            &mut run_numbers,
-        );
+        let answer = once(request, turns, &values, &places, &numbers, &mut out);
         answers = std::num::wrapping_add_usize(answers, answer);
         turns -= 1;
     }
-    let left = sum(&out);
-    let more = crate::t16::sum(&run_numbers);
     Outcome {
         answers,
-        sum: plus(left, more),
+        sum: sum(&out),
     }
 }
 
@@ -76,7 +57,6 @@ fn once(
     places: &Places,
     numbers: &Runs,
     out: &mut Block,
-    run_numbers: &mut Runs,
 ) -> usize {
     let op = request.op;
     let width = request.width;
@@ -122,7 +102,6 @@ fn once(
             let reference = byte_to_u64(request.start);
             deltas::t64::unfor_pack(width, &all[..n], reference, out).number()
         }
-        9 => runs::t64::encode(all, out, run_numbers).answer().number(),
         10 => runs::t64::decode(all, numbers, out).number(),
         11 => places::t64::transpose(all, out).number(),
         12 => places::t64::untranspose(all, out).number(),

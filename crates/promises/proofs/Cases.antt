@@ -9,9 +9,8 @@ use native.Mathlib.Numerals.{add-one}
 use native.Mathlib.Decide.{decLt}
 use native.Mathlib.Omega.{arith}
 use lib.Dec.{eqb, lit<, lit≤}
-use lib.ListN.{length, getD, take, List·getD-eq-default}
+use lib.ListN.{length, getD, List·getD-eq-default}
 use lib.Pow.{pow-pos}
-use lib.Seq.{ext-getD}
 use borrow.Author.Tests.{ne-eqb}
 use Rattle.places.specs.Numbers.{number, digit, plus, minus, Elements}
 use Rattle.places.specs.Pick.{pick}
@@ -22,6 +21,7 @@ use Rattle.places.specs.Transposes.{transposeOf, untransposeOf, transposeLeaves
 use Rattle.places.proofs.Digits.{number-ext, elements-of}
 use Rattle.places.proofs.Every.{Same, same}
 use Rattle.places.proofs.Places.{size8, size16, size32, size64, lane-place, row-place, target-source, source-lt}
+use Rattle.places.proofs.Search.{first-beyond-none}
 use Rattle.places.proofs.Tabs.{getD-tab, length-tab}
 use Rattle.places.proofs.Walks.{good-blocks}
 use Rattle.packing.specs.Calls.{packLeaves}
@@ -37,12 +37,9 @@ use Rattle.deltas.specs.Calls.{deltaLeaves}
 use Rattle.deltas.proofs.Answers.{for-pack-leaves, unfor-pack-leaves, delta-leaves}
 use Rattle.deltas.proofs.Demand3.{frame-back}
 use Rattle.deltas.proofs.Lanes.{length-for-pack, delta-first, delta-next}
-use Rattle.runs.specs.declared.Encoded.the-variants.{Count}
-use Rattle.runs.specs.Calls.{indicesLeaves, dictionaryLeaves}
-use Rattle.runs.specs.Runs.{runAt, runCount, runValues, dictionaryOf}
-use Rattle.runs.proofs.Answers.{encode-done}
-use Rattle.runs.proofs.Rounds.{encode-counts, index-at, dictionary-first}
-use Rattle.runs.proofs.Runs.{run-same, run-new, run-value, values-count}
+use Rattle.runs.specs.Calls.{decodeTakes, decodeLeaves}
+use Rattle.runs.specs.Runs.{decodeOf}
+use Rattle.runs.proofs.Answers.{decode-done}
 use Rattle.bits.specs.Bits.{bit, goesTo, transposeBitsOf}
 use Rattle.bits.proofs.Bits.{transpose-puts}
 use Rattle.promises.specs.Cases.{Mark, _at_, Holding, Whole, Rows, SameAt, Needed, Each, stands, comes, packs, reads, frames, steps, runs, moves, Holds, rowsP6, blockP10, indicesP10, valuesP10, cases, All}
@@ -200,60 +197,28 @@ module _ {t : ℕ} (s : Size t) (base : ℕ) (rows : List ℕ) (fits : length ro
 
 -- ---- runs
 
--- P10's block, for two numbers that differ
-module _ (a b : ℕ) (apart : a ≡ b → ⊥) (v : List ℕ) (whole : Whole v (blockP10 a b)) where
-  run-1 : runAt v 1 ≡ 0
-  unfolding runAt
-  run-1 = run-same v 0 (whole 1 (lit< tt) ∙ sym (whole 0 (lit< tt)))
+-- each of P10's indices has a value, which is the block's
+index-below : (i : ℕ) → getD (indicesP10 .front) i (indicesP10 .rest) < 3
+index-below zero = lit< tt
+index-below (suc zero) = lit< tt
+index-below (suc (suc zero)) = lit< tt
+index-below (suc (suc (suc zero))) = lit< tt
+index-below (suc (suc (suc (suc k)))) = lit< tt
 
-  run-2 : runAt v 2 ≡ 1
-  run-2 = run-new v 1 (λ e. apart (sym (whole 1 (lit< tt)) ∙ sym e ∙ whole 2 (lit< tt))) ∙ ap (λ n. n + 1) run-1
+value-of : (a b i : ℕ) → getD (valuesP10 a b) (getD (indicesP10 .front) i (indicesP10 .rest)) 0 ≡ getD (blockP10 a b .front) i (blockP10 a b .rest)
+value-of a b zero = refl
+value-of a b (suc zero) = refl
+value-of a b (suc (suc zero)) = refl
+value-of a b (suc (suc (suc zero))) = refl
+value-of a b (suc (suc (suc (suc k)))) = refl
 
-  run-3 : runAt v 3 ≡ 2
-  run-3 = run-new v 2 (λ e. apart (sym (whole 3 (lit< tt)) ∙ e ∙ whole 2 (lit< tt))) ∙ ap (λ n. n + 1) run-2
-
-  -- from place 3 on no value differs from the one before
-  run-later : (k : ℕ) → suc (suc (suc k)) < 1024 → runAt v (suc (suc (suc k))) ≡ 2
-  run-later zero h = run-3
-  run-later (suc k) h =
-      let i : ℕ = suc (suc (suc k)) in
-      run-same v i (whole (suc i) h ∙ sym (whole i (omega arith))) ∙ run-later k (omega arith)
-
-  run-at : (i : ℕ) → i < 1024 → runAt v i ≡ getD (indicesP10 .front) i (indicesP10 .rest)
-  unfolding runAt
-  run-at zero h = refl
-  run-at (suc zero) h = run-1
-  run-at (suc (suc zero)) h = run-2
-  run-at (suc (suc (suc zero))) h = run-3
-  run-at (suc (suc (suc (suc k)))) h = run-later (suc k) h
-
-  run-count : runCount v ≡ 3
-  unfolding runCount
-  run-count = ap (λ n. n + 1) (run-at 1023 (lit< tt))
-
-  -- the value of a run is that of a place in it; the runs begin at places 0, 2 and 3
-  value-of : (i : ℕ) → i < 1024 → getD (runValues v) (getD (indicesP10 .front) i (indicesP10 .rest)) 0 ≡ getD (blockP10 a b .front) i a
-  value-of i h = ap (λ n. getD (runValues v) n 0) (sym (run-at i h)) ∙ run-value v i h ∙ whole i h
-
-  value-at : (k : ℕ) → k < 3 → getD (runValues v) k 0 ≡ getD (valuesP10 a b) k 0
-  value-at zero h = value-of 0 (lit< tt)
-  value-at (suc zero) h = value-of 2 (lit< tt)
-  value-at (suc (suc zero)) h = value-of 3 (lit< tt)
-  value-at (suc (suc (suc k))) h = absurd (omega arith)
-
-  run-values : runValues v ≡ valuesP10 a b
-  run-values =
-      let n : length (runValues v) ≡ 3 = values-count v ∙ run-count in
-      ext-getD 0 (runValues v) (valuesP10 a b) n (λ k h. value-at k (omega arith))
-
-runs-hold : Holds (runs blockP10 3 indicesP10 valuesP10)
-unfolding Holds indicesLeaves dictionaryLeaves
-runs-hold a b apart v old places lv lo lp whole =
-    let n : runCount v ≡ 3 = run-count a b apart v whole in
-    rw (encode-counts v old places lv lo lp, encode-done v old places lv lo lp) (
-      ap Count n,
-      λ i h. index-at v i h ∙ run-at a b apart v whole i h,
-      ap (λ k. take k (dictionaryOf v old)) (sym n) ∙ dictionary-first v old ∙ run-values a b apart v whole,
+runs-hold : Holds (runs valuesP10 indicesP10 blockP10)
+unfolding Holds decodeLeaves decodeOf
+runs-hold a b places output lp lo whole =
+    let below : (i : ℕ) → i < length places → getD places i 0 < 3 = λ i h. rw (whole i (omega arith)) (index-below i) in
+    rw (decode-done (valuesP10 a b) places output lp lo (first-beyond-none 3 places .1 below)) (
+      refl,
+      λ i h. getD-tab 1024 _ i 0 h ∙ ap (λ k. getD (valuesP10 a b) k 0) (whole i h) ∙ value-of a b i,
     )
 
 -- ---- the list

@@ -29,7 +29,7 @@ use Rattle.access.specs.Counts.{countAt}
 use Rattle.access.proofs.Answers.{list-good, index-in, single-good}
 use Rattle.access.proofs.Counts.{words-none}
 use Rattle.deltas.specs.Calls.{deltaTakes, undeltaPackTakes}
-use Rattle.runs.specs.Calls.{encodeTakes, decodeTakes}
+use Rattle.runs.specs.Calls.{decodeTakes}
 use Rattle.promises.specs.Tables.{Lowest, Gives}
 use Rattle.promises.proofs.Tables.{plainly}
 
@@ -98,15 +98,6 @@ pub undelta-pack-numbers : (t w : ℕ) (values packed base : List ℕ) (p : ℕ)
 undelta-pack-numbers t w values packed base p =
     let row = plainly (undeltaPackTakes t w values packed base) refl in
     (row 0 p, row 1 p, row 2 p, row 3 p, row 4 p)
-
--- encode
-pub encode-numbers : (values dictionary indices : List ℕ) (p : ℕ)
-    → let gives : ℕ → Type 0 = λ n. Gives (answerFor (encodeTakes values dictionary indices)) n p in
-    (gives 0 ↔ ((length values ≡ 1024) × ((length dictionary ≡ 1024) × ((length indices ≡ 1024) × (p ≡ 0)))))
-    × (gives 2 ↔ (((length values ≢ 1024) × (p ≡ 0)) ⊎ (((length dictionary ≢ 1024) × (p ≡ 0)) ⊎ ((length indices ≢ 1024) × (p ≡ 0)))))
-encode-numbers values dictionary indices p =
-    let row = plainly (encodeTakes values dictionary indices) refl in
-    (row 0 p, row 2 p)
 
 -- decode
 pub decode-numbers : (dictionary indices output : List ℕ) (p : ℕ)

@@ -12,7 +12,7 @@ use Rattle.packing.specs.Calls.{packTakes, packLeaves, unpackLeaves}
 use Rattle.access.specs.Budgets.{withinLeaves}
 use Rattle.access.specs.Calls.{listTakes, listLeaves}
 use Rattle.deltas.specs.Calls.{deltaTakes, deltaLeaves, undeltaLeaves, undeltaPackTakes, undeltaPackLeaves, forPackLeaves, unforPackLeaves}
-use Rattle.runs.specs.Calls.{encodeTakes, dictionaryLeaves, indicesLeaves, decodeTakes, decodeLeaves}
+use Rattle.runs.specs.Calls.{decodeTakes, decodeLeaves}
 
 -- A call that takes these things is refused.
 abbrev pub Refused : List Taken → Type 0
@@ -67,15 +67,6 @@ pub undelta-pack-refused : (t w : ℕ) (values packed base : List ℕ) → Refus
     → undeltaPackLeaves t w values packed base ≡ values
 unfolding undeltaPackLeaves
 undelta-pack-refused t w values packed base h = left-refused (answerFor (undeltaPackTakes t w values packed base)) _ values h
-
-module _ (values dictionary indices : List ℕ) (h : Refused (encodeTakes values dictionary indices)) where
-  pub encode-refused-dictionary : dictionaryLeaves values dictionary indices ≡ dictionary
-  unfolding dictionaryLeaves
-  encode-refused-dictionary = left-refused (answerFor (encodeTakes values dictionary indices)) _ dictionary h
-
-  pub encode-refused-indices : indicesLeaves values dictionary indices ≡ indices
-  unfolding indicesLeaves
-  encode-refused-indices = left-refused (answerFor (encodeTakes values dictionary indices)) _ indices h
 
 pub decode-refused : (dictionary indices output : List ℕ) → Refused (decodeTakes dictionary indices output)
     → decodeLeaves dictionary indices output ≡ output

@@ -1,6 +1,5 @@
--- Calls that give a value or a refusal: what is read off them. The answer of single access and of encode is the table's, and the value is the
--- one at the index, or the number of runs, where the call is done, and else 0. Single access also has the count of its words, and of a refused
--- call none.
+-- A call that gives a value or a refusal: what is read off it. The answer of single access is the table's, and the value is the one at the index
+-- where the call is done, and else 0. It also has the count of its words, and of a refused call none.
 -- Assumes nothing.
 use mathlib.Core.List.{List}
 use mathlib.Core.Path.{_≡_, refl}

@@ -4,17 +4,18 @@
 use mathlib.Core.List.{List, [], _∷_}
 use mathlib.Core.Path.{_≡_}
 use Prim.Native.Nat.{ℕ, _*_, _<_}
-use lib.ListN.{length, getD, take}
+use lib.ListN.{length, getD}
+use Rattle.places.specs.declared.Answer.the-variants.{Done}
 use Rattle.places.specs.Numbers.{minus, Elements}
 use Rattle.places.specs.Places.{place, lane, row, source}
 use Rattle.places.specs.Sizes.{t8, t16, t32, t64, lanes}
+use Rattle.places.specs.Takes.{answerFor}
 use Rattle.places.specs.Transposes.{transposeLeaves, untransposeLeaves}
 use Rattle.packing.specs.Calls.{packLeaves}
 use Rattle.access.specs.declared.t8.Single.the-variants.{Value, Refused}
 use Rattle.access.specs.Calls.{singleOf}
 use Rattle.deltas.specs.Calls.{deltaLeaves, forPackLeaves, unforPackLeaves}
-use Rattle.runs.specs.declared.Encoded.the-variants.{Count}
-use Rattle.runs.specs.Calls.{encodedOf, indicesLeaves, dictionaryLeaves}
+use Rattle.runs.specs.Calls.{decodeTakes, decodeLeaves}
 use Rattle.bits.specs.Bits.{bit, goesTo, transposeBitsOf}
 
 -- This is a number with the place of a list at which it stands.
@@ -84,8 +85,8 @@ pub data Case : Type 0 where
   frames : (t w value reference difference result : ℕ) → Case
   -- A lane with this base, and these numbers in its first rows, has these differences.
   steps : (t base : ℕ) (rows differences : List ℕ) → Case
-  -- A block that is made of two numbers which differ has so many runs, these indices, and these values of its runs.
-  runs : (block : ℕ → ℕ → Stretch) (count : ℕ) (indices : Stretch) (values : ℕ → ℕ → List ℕ) → Case
+  -- These values, made of two numbers, and these indices are decoded to this block.
+  runs : (values : ℕ → ℕ → List ℕ) (indices : Stretch) (block : ℕ → ℕ → Stretch) → Case
   -- The bit transpose for size t moves input bit p to output bit q.
   moves : (t p q : ℕ) → Case
 
@@ -119,13 +120,10 @@ Holds (frames t w value reference difference result) =
 Holds (steps t base rows differences) =
     (values bases output : List ℕ) → length values ≡ 1024 → length bases ≡ lanes t → length output ≡ 1024
     → (l : ℕ) → l < lanes t → getD bases l 0 ≡ base → Rows values l rows → Rows (deltaLeaves t values bases output) l differences
--- Whichever the two numbers are, encode gives the count, and leaves the indices and in front of its dictionary the runs' values.
-Holds (runs block count indices values) =
-    (a b : ℕ) → (a ≡ b → ⊥) → (v dictionary places : List ℕ)
-    → length v ≡ 1024 → length dictionary ≡ 1024 → length places ≡ 1024 → Whole v (block a b)
-    → (encodedOf v dictionary places ≡ Count count)
-    × Whole (indicesLeaves v dictionary places) indices
-    × (take count (dictionaryLeaves v dictionary places) ≡ values a b)
+-- Whichever the two numbers are, decode takes the values and the indices, and leaves the block.
+Holds (runs values indices block) =
+    (a b : ℕ) (places output : List ℕ) → length places ≡ 1024 → length output ≡ 1024 → Whole places indices
+    → (answerFor (decodeTakes (values a b) places output) ≡ Done) × Whole (decodeLeaves (values a b) places output) (block a b)
 -- In every bit block, output bit q is input bit p.
 Holds (moves t p q) = (goesTo t p ≡ q) × ((b : List ℕ) → bit (transposeBitsOf t b) q ≡ bit b p)
 
@@ -137,17 +135,17 @@ rowsP6 = 0 ∷ 1 ∷ 2 ∷ 3 ∷ 4 ∷ 5 ∷ 6 ∷ 7 ∷ []
 abbrev pub wordsP6 : List Mark
 wordsP6 = 136 at 0 ∷ 198 at 128 ∷ 250 at 256 ∷ []
 
--- P10's block is made of the two numbers so.
-abbrev pub blockP10 : ℕ → ℕ → Stretch
-blockP10 a b = (a ∷ a ∷ b ∷ []) thenOn a
+-- P10's runs have these values, made of the two numbers.
+abbrev pub valuesP10 : ℕ → ℕ → List ℕ
+valuesP10 a b = a ∷ b ∷ a ∷ []
 
 -- These are its indices.
 abbrev pub indicesP10 : Stretch
 indicesP10 = (0 ∷ 0 ∷ 1 ∷ 2 ∷ []) thenOn 2
 
--- These are the values of its runs.
-abbrev pub valuesP10 : ℕ → ℕ → List ℕ
-valuesP10 a b = a ∷ b ∷ a ∷ []
+-- This is its block.
+abbrev pub blockP10 : ℕ → ℕ → Stretch
+blockP10 a b = (a ∷ a ∷ b ∷ []) thenOn a
 
 -- This is the list. P5 is four cases, and P8 and P11 are two each.
 abbrev pub cases : List Case
@@ -165,7 +163,7 @@ cases =
     ∷ frames t8 4 3 250 9 3  -- P8, restored at width 4
     ∷ frames t8 3 3 250 9 251  -- P8, not restored at width 3
     ∷ steps t8 5 (5 ∷ 7 ∷ 6 ∷ []) (0 ∷ 2 ∷ 255 ∷ [])  -- P9
-    ∷ runs blockP10 3 indicesP10 valuesP10  -- P10
+    ∷ runs valuesP10 indicesP10 blockP10  -- P10, which reads without encode (document 02, Item 11)
     ∷ moves t16 56 67  -- P11
     ∷ moves t64 64 1  -- P11
     ∷ []

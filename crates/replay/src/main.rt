@@ -109,7 +109,7 @@ fn case(head: Head) -> Step {
     if !there {
         return Step::Bad;
     }
-    let reply = call(head, &a, &b, &mut c, &mut d);
+    let reply = call(head, &a, &b, &mut c);
     judge(head, whole(head, reply), &c, &c_exit, &d, &d_exit)
 }
 
@@ -124,32 +124,18 @@ fn whole(head: Head, reply: Reply) -> Reply {
     }
 }
 
-// The call: on bit blocks, or at the size of its elements. What has one size for all is made of b and d here: the indices
-// of list access, the dictionary indices that decode takes, and those that encode writes. No other call takes d.
-fn call(head: Head, a: &Wide, b: &Wide, c: &mut Wide, d: &mut Wide) -> Reply {
+// The call: on bit blocks, or at the size of its elements. What has one size for all is made of b here: the indices of list
+// access, and the dictionary indices that decode takes.
+fn call(head: Head, a: &Wide, b: &Wide, c: &mut Wide) -> Reply {
     let op = head.op;
     if op == 13 || op == 14 {
         return bit_block::call(head, a, c);
     }
     let indices = indexed(b);
     let entries = t16::narrowed(b);
-    let mut run_numbers = t16::narrowed(d);
     let k = within_indices(head.n_b, &indices);
     let l = t16::within(head.n_b, &entries);
-    let m = t16::within(head.n_d, &run_numbers);
-    let reply = at_size(
-        head,
-        a,
-        b,
-        c,
-        &indices[..k],
-        &entries[..l],
-        &mut run_numbers[..m],
-    );
-    if op == 9 {
-        *d = t16::widened(&run_numbers);
-    }
-    reply
+    at_size(head, a, b, c, &indices[..k], &entries[..l])
 }
 
 fn at_size(
@@ -159,14 +145,13 @@ fn at_size(
     c: &mut Wide,
     indices: &[usize],
     entries: &[u16],
-    run_numbers: &mut [u16],
 ) -> Reply {
     let t = head.t;
     match t {
-        8 => t8::call(head, a, b, c, indices, entries, run_numbers),
-        16 => t16::call(head, a, b, c, indices, entries, run_numbers),
-        32 => t32::call(head, a, b, c, indices, entries, run_numbers),
-        64 => t64::call(head, a, b, c, indices, entries, run_numbers),
+        8 => t8::call(head, a, b, c, indices, entries),
+        16 => t16::call(head, a, b, c, indices, entries),
+        32 => t32::call(head, a, b, c, indices, entries),
+        64 => t64::call(head, a, b, c, indices, entries),
         _ => Reply::Unknown,
     }
 }

@@ -3,7 +3,6 @@ use crate::Wide;
 use access::Afforded;
 use access::Listed;
 use places::Answer;
-use runs::Encoded;
 use stream::Head;
 use stream::Reply;
 use stream::Step;
@@ -12,11 +11,6 @@ ghost use mathlib.Core.Path.{_≡_};
 ghost use Prim.Native.Nat.{_≤_};
 ghost use Rattle.stream.specs.declared.Step.the-variants.{Same};
 ghost use Rattle.stream.specs.Expected.{AsExpected};
-
-// The reply of encode, which gives back the number of runs.
-pub fn of_runs(encoded: Encoded) -> Reply {
-    Reply::with_value(encoded.answer(), encoded.count() as u64)
-}
 
 // The reply of access by a list, which gives back the words of all its lookups.
 pub fn of_list(listed: Listed) -> Reply {
@@ -33,7 +27,7 @@ pub fn of_plain(answer: Answer, value: u64, words: usize) -> Reply {
     Reply::with_value(answer, value).with_reference(words as u64)
 }
 
-// What comes of the case with this head, from what its call gave back and left in the buffers c and d.
+// What comes of the case with this head, from what its call gave back and left in the buffers c and d. No call takes d.
 pub fn judge(head: Head, reply: Reply, c: &Wide, c_exit: &Wide, d: &Wide, d_exit: &Wide) -> Step
     ensures { λ r. ⌜ (r ≡ Same → AsExpected head reply (now (c .entry)) (now («c_exit» .entry)) (now (d .entry)) (now («d_exit» .entry))) ⌝ }
     ensures { λ r. ⌜ (head .«n_c» ≤ 4096 → head .«n_d» ≤ 4096 → AsExpected head reply (now (c .entry)) (now («c_exit» .entry)) (now (d .entry)) (now («d_exit» .entry)) → r ≡ Same) ⌝ }

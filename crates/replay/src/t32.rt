@@ -6,7 +6,6 @@ use crate::Wide;
 use crate::outcome::of_front;
 use crate::outcome::of_list;
 use crate::outcome::of_plain;
-use crate::outcome::of_runs;
 use access::t32::Single;
 use stream::Head;
 use stream::Reply;
@@ -27,7 +26,6 @@ pub fn call(
     c: &mut Wide,
     indices: &[usize],
     entries: &[u16],
-    run_numbers: &mut [u16],
 ) -> Reply {
     let input = narrowed(a);
     let base = narrowed(b);
@@ -42,7 +40,6 @@ pub fn call(
         &mut out[..m],
         indices,
         entries,
-        run_numbers,
     );
     *c = widened(&out);
     reply
@@ -56,7 +53,6 @@ fn reply(
     out: &mut [u32],
     indices: &[usize],
     entries: &[u16],
-    run_numbers: &mut [u16],
 ) -> Reply {
     let op = head.op;
     let width = head.width as usize;
@@ -71,7 +67,6 @@ fn reply(
         6 => Reply::of(deltas::t32::undelta_pack(width, input, base, out)),
         7 => Reply::of(deltas::t32::for_pack(width, input, reference, out)),
         8 => Reply::of(deltas::t32::unfor_pack(width, input, reference, out)),
-        9 => of_runs(runs::t32::encode(input, out, run_numbers)),
         10 => Reply::of(runs::t32::decode(input, entries, out)),
         11 => Reply::of(places::t32::transpose(input, out)),
         12 => Reply::of(places::t32::untranspose(input, out)),

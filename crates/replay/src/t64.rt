@@ -5,7 +5,6 @@ use crate::Wide;
 use crate::outcome::of_front;
 use crate::outcome::of_list;
 use crate::outcome::of_plain;
-use crate::outcome::of_runs;
 use access::t64::Single;
 use stream::Head;
 use stream::Reply;
@@ -26,7 +25,6 @@ pub fn call(
     c: &mut Wide,
     indices: &[usize],
     entries: &[u16],
-    run_numbers: &mut [u16],
 ) -> Reply {
     let input = narrowed(a);
     let base = narrowed(b);
@@ -41,7 +39,6 @@ pub fn call(
         &mut out[..m],
         indices,
         entries,
-        run_numbers,
     );
     *c = widened(&out);
     reply
@@ -55,7 +52,6 @@ fn reply(
     out: &mut [u64],
     indices: &[usize],
     entries: &[u16],
-    run_numbers: &mut [u16],
 ) -> Reply {
     let op = head.op;
     let width = head.width as usize;
@@ -70,7 +66,6 @@ fn reply(
         6 => Reply::of(deltas::t64::undelta_pack(width, input, base, out)),
         7 => Reply::of(deltas::t64::for_pack(width, input, reference, out)),
         8 => Reply::of(deltas::t64::unfor_pack(width, input, reference, out)),
-        9 => of_runs(runs::t64::encode(input, out, run_numbers)),
         10 => Reply::of(runs::t64::decode(input, entries, out)),
         11 => Reply::of(places::t64::transpose(input, out)),
         12 => Reply::of(places::t64::untranspose(input, out)),

@@ -61,11 +61,7 @@ pub fn bytes_c(head: Head) -> usize {
 }
 
 pub fn bytes_d(head: Head) -> usize {
-    let op = head.op;
-    match op {
-        9 => 2,
-        _ => bytes_of(head.t),
-    }
+    bytes_of(head.t)
 }
 
 fn is_size(t: u8) -> bool {

@@ -1,5 +1,2 @@
 pub mod Answers
-pub mod Encodes
 pub mod Highs
-pub mod Rounds
-pub mod Runs

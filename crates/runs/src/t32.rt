@@ -1,6 +1,5 @@
 // Written by tools/sizes from the text of size 64: edit that one, and run tools/sizes.
-// Runs in blocks of u32 values: encode, decode, and the loop of each. From the crate's src/rle.rs.
-use crate::Encoded;
+// Runs in blocks of u32 values: decode, and its loop. From the crate's src/rle.rs.
 use crate::first_beyond;
 use crate::highest;
 use places::Answer;
@@ -8,54 +7,9 @@ ghost use mathlib.Core.Path.{_≡_};
 ghost use Prim.Native.Nat.{_<_};
 ghost use lib.ListN.{length};
 ghost use Rattle.places.specs.Takes.{answerFor};
-ghost use Rattle.runs.specs.Calls.{encodedOf, dictionaryLeaves, indicesLeaves, decodeTakes, decodeLeaves};
+ghost use Rattle.runs.specs.Calls.{decodeTakes, decodeLeaves};
 ghost use Rattle.runs.specs.Highest.{highestOf};
-ghost use Rattle.runs.specs.Runs.{runCount, dictionaryOf, indicesOf, decodeOf};
-
-// Stores each run's value in order, and for each place the number of its run; gives the number of runs.
-pub fn encode(values: &[u32], dictionary: &mut [u32], indices: &mut [u16]) -> Encoded
-    ensures { λ r. ⌜ r ≡ encodedOf (now (values .entry)) (now (dictionary .entry)) (now (indices .entry)) ⌝ }
-    ensures { λ _. ⌜ now (dictionary .exit) ≡ dictionaryLeaves (now (values .entry)) (now (dictionary .entry)) (now (indices .entry)) ⌝ }
-    ensures { λ _. ⌜ now (indices .exit) ≡ indicesLeaves (now (values .entry)) (now (dictionary .entry)) (now (indices .entry)) ⌝ }
-{
-    if values.len() != 1024 {
-        return Encoded::Refused(Answer::Block);
-    }
-    if dictionary.len() != 1024 {
-        return Encoded::Refused(Answer::Block);
-    }
-    if indices.len() != 1024 {
-        return Encoded::Refused(Answer::Block);
-    }
-    Encoded::Count(number_runs(values, dictionary, indices))
-}
-
-// The whole block: a place whose value differs from the one before begins the next run.
-fn number_runs(values: &[u32], dictionary: &mut [u32], indices: &mut [u16]) -> usize
-    requires { ⌜ length (now values) ≡ 1024 ⌝ }
-    requires { ⌜ length (now dictionary) ≡ 1024 ⌝ }
-    requires { ⌜ length (now indices) ≡ 1024 ⌝ }
-    ensures { λ r. ⌜ r ≡ runCount (now (values .entry)) ⌝ }
-    ensures { λ _. ⌜ now (dictionary .exit) ≡ dictionaryOf (now (values .entry)) (now (dictionary .entry)) ⌝ }
-    ensures { λ _. ⌜ now (indices .exit) ≡ indicesOf (now (values .entry)) ⌝ }
-{
-    let mut before = values[0];
-    dictionary[0] = before;
-    indices[0] = 0;
-    let mut run = 0;
-    let mut i = 1;
-    while i < 1024 {
-        let value = values[i];
-        if value != before {
-            run += 1;
-            dictionary[run] = value;
-            before = value;
-        }
-        indices[i] = run as u16;
-        i += 1;
-    }
-    run + 1
-}
+ghost use Rattle.runs.specs.Runs.{decodeOf};
 
 // Puts at each place the dictionary's value at the place's index. The dictionary may have any length.
 pub fn decode(dictionary: &[u32], indices: &[u16], output: &mut [u32]) -> Answer

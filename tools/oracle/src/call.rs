@@ -2,7 +2,7 @@
 //!
 //! Everything else in this program asks here what a call takes: the rules for what is refused, the
 //! making of questions, and the layout of a record. The numbers are those of the stream format and
-//! stay for good.
+//! stay for good; 9 was run encode's, which has left (document 02, Item 11).
 
 use Role::*;
 
@@ -24,7 +24,6 @@ pub enum Call {
     UndeltaPack = 6,
     ForPack = 7,
     UnforPack = 8,
-    Encode = 9,
     Decode = 10,
     Transpose = 11,
     Untranspose = 12,
@@ -35,7 +34,7 @@ pub enum Call {
 }
 
 /// All calls, in the order of their numbers.
-pub const CALLS: [Call; 16] = [
+pub const CALLS: [Call; 15] = [
     Call::Pack,
     Call::Unpack,
     Call::Single,
@@ -45,7 +44,6 @@ pub const CALLS: [Call; 16] = [
     Call::UndeltaPack,
     Call::ForPack,
     Call::UnforPack,
-    Call::Encode,
     Call::Decode,
     Call::Transpose,
     Call::Untranspose,
@@ -128,7 +126,7 @@ impl Call {
         self as u8
     }
 
-    /// The roles of the buffers a, b, c and d. The call reads a and b, and writes c and d.
+    /// The roles of the buffers a, b, c and d. The call reads a and b, and writes c. No call has d.
     pub fn roles(self) -> [Role; 4] {
         match self {
             Call::Pack | Call::ForPack => [Block, Absent, Packed, Absent],
@@ -137,7 +135,6 @@ impl Call {
             Call::List | Call::Budget => [Packed, Places, Outputs, Absent],
             Call::Delta | Call::Undelta => [Block, Base, Block, Absent],
             Call::UndeltaPack => [Packed, Base, Block, Absent],
-            Call::Encode => [Block, Absent, Block, RunNumbers],
             Call::Decode => [Dictionary, RunNumbers, Block, Absent],
             Call::Transpose | Call::Untranspose => [Block, Absent, Block, Absent],
             Call::TransposeBits | Call::UntransposeBits => [Bits, Absent, Bits, Absent],

@@ -12,7 +12,7 @@
 //! refused stops the run and is not answered by chance.
 
 use crate::call::{BLOCK, Call};
-use crate::stream::{A, Answer, B, C, D, Question};
+use crate::stream::{A, Answer, B, C, Question};
 use crate::words;
 use fastlanes::{BitPacking, Delta, FastLanes, FoR, RLE, Transpose, scalar};
 use seq_macro::seq;
@@ -122,7 +122,6 @@ fn answer_at<E: Size>(q: &Question) -> Answer {
         value: 0,
         words: words::read(q),
         c: q.buffers[C].clone(),
-        d: q.buffers[D].clone(),
     };
     match q.call {
         Call::Pack | Call::Unpack | Call::ForPack | Call::UnforPack => done.c = pack::<E>(q),
@@ -130,7 +129,6 @@ fn answer_at<E: Size>(q: &Question) -> Answer {
         Call::List => done.c = list::<E>(q),
         Call::Budget => (done.value, done.c) = list_within_budget::<E>(q),
         Call::Delta | Call::Undelta | Call::UndeltaPack => done.c = delta::<E>(q),
-        Call::Encode => (done.value, done.c, done.d) = encode::<E>(q),
         Call::Decode => done.c = decode::<E>(q),
         Call::Transpose | Call::Untranspose => done.c = transpose::<E>(q),
         Call::TransposeBits | Call::UntransposeBits => done.c = bits::<E>(q),
@@ -227,22 +225,6 @@ fn delta<E: Size>(q: &Question) -> Vec<u64> {
         _ => E::undelta_pack_at(q.width as usize, &a, &base, out),
     }
     widen(c)
-}
-
-/// Run encode: the run count, and the dictionary and run numbers afterwards.
-fn encode<E: Size>(q: &Question) -> (u64, Vec<u64>, Vec<u64>) {
-    let values: Vec<E> = narrow(&q.buffers[A]);
-    let mut dictionary: Vec<E> = narrow(&q.buffers[C]);
-    let mut numbers: Vec<u16> = narrow(&q.buffers[D]);
-    // SAFETY: all that is asked is that the three have 1,024 elements, which their types say.
-    let count = unsafe {
-        E::encode_unchecked(
-            exact(&values),
-            exact_mut(&mut dictionary),
-            exact_mut(&mut numbers),
-        )
-    };
-    (count as u64, widen(dictionary), widen(numbers))
 }
 
 /// Run decode: the values afterwards.

@@ -35,7 +35,7 @@ usage: oracle sweep [SEED]      every call at every size and width, and the edge
                                 of words that a lookup reads against the crate's packing
 
 The first three write a case stream to standard output.
-  --ops LIST  only the calls with these numbers, as 0,1,2; all 19 without it
+  --ops LIST  only the calls with these numbers, as 0,1,2; all 18 without it
   --tally     say on standard error how many cases were written, for each call and in all
 
 Exit status: 0 done; 1 the stream could not be written, or a line of the self-check failed;

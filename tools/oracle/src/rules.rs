@@ -7,7 +7,7 @@
 //! at buffers of a role that the call has, so each call tests only what it takes.
 
 use crate::call::{BLOCK, Call, Role};
-use crate::stream::{A, Answer, B, C, D, Question};
+use crate::stream::{A, Answer, B, C, Question};
 
 /// The tests of the numbers 1 to 7.
 const TESTS: [fn(&Question) -> Option<usize>; 7] = [
@@ -31,7 +31,6 @@ pub fn refusal(q: &Question) -> Option<Answer> {
         value: 0,
         words: None,
         c: q.buffers[C].clone(),
-        d: q.buffers[D].clone(),
     })
 }
 
@@ -45,7 +44,7 @@ fn width_above_t(q: &Question) -> Option<usize> {
     at_0(q.call.takes_width() && q.width > q.t.into())
 }
 
-/// 2: a buffer for a block (values, run numbers, encode's dictionary) is not 1,024 long.
+/// 2: a buffer for a block (values, run numbers) is not 1,024 long.
 fn block_not_1024_long(q: &Question) -> Option<usize> {
     at_0(
         q.roles()

@@ -2,7 +2,7 @@
 //! tests need neither Rust nor the crate.
 //!
 //! Every call at every size; the widths 0, 1, T - 1, T and T + 1 (refused); each refusal alone and
-//! all of a call's reasons at once; the lists, dictionaries and runs at their edges. What is large
+//! all of a call's reasons at once; the lists and dictionaries at their edges. What is large
 //! stands at the small sizes: a case of u64 blocks has up to 24 kB, one of u8 blocks 3 kB.
 
 use crate::call::{BLOCK, Call, Op, Role};
@@ -47,8 +47,8 @@ fn plain(call: Call, random: &mut Random, sink: &mut Sink) {
 /// The accepted cases at the widths of the sample.
 fn edge_widths(call: Call, t: u32, random: &mut Random, sink: &mut Sink) {
     for width in widths(call, t) {
-        let (kind, end) = (kind(call, t), ENDS[width as usize % ENDS.len()]);
-        let shape = Shape { kind, end, ..PLAIN };
+        let end = ENDS[width as usize % ENDS.len()];
+        let shape = Shape { end, ..PLAIN };
         sink.put(&accepted(call, t, width, shape, random));
     }
 }
@@ -77,16 +77,6 @@ fn widths(call: Call, t: u32) -> Vec<u64> {
     }
 }
 
-/// Random values; for encode, values that have runs.
-fn kind(call: Call, t: u32) -> Kind {
-    match (call, t) {
-        (Call::Encode, 8) => Kind::Equal,
-        (Call::Encode, 32) => Kind::Alternating,
-        (Call::Encode, _) => Kind::Runs,
-        _ => Kind::Full,
-    }
-}
-
 /// The edges of each call that are not a width.
 fn edges(call: Call, t: u32, random: &mut Random, sink: &mut Sink) {
     match (call, t) {
@@ -98,10 +88,6 @@ fn edges(call: Call, t: u32, random: &mut Random, sink: &mut Sink) {
         (Call::Single, _) => places(t, random, sink),
         (Call::List, _) => lists(t, random, sink),
         (Call::Budget, _) => lists_within_budgets(t, random, sink),
-        (Call::Encode, 8) => {
-            let kind = Kind::Alternating;
-            sink.put(&accepted(call, t, 0, Shape { kind, ..PLAIN }, random));
-        }
         (Call::Decode, 8) => {
             for dictionary in [1, BLOCK + 1] {
                 let shape = Shape {

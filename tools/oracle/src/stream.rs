@@ -28,7 +28,7 @@ pub const B: usize = 1;
 pub const C: usize = 2;
 pub const D: usize = 3;
 
-/// What the call must give back, and what c and d must hold afterwards.
+/// What the call must give back, and what c must hold afterwards.
 pub struct Answer {
     pub number: u8,
     pub place: u64,
@@ -37,7 +37,6 @@ pub struct Answer {
     /// refused.
     pub words: Option<u64>,
     pub c: Vec<u64>,
-    pub d: Vec<u64>,
 }
 
 /// What stands in the count's field where there is no count.
@@ -81,8 +80,9 @@ impl Question {
         self.elements(B, &self.buffers[B], &mut record);
         self.elements(C, &self.buffers[C], &mut record);
         self.elements(C, &answer.c, &mut record);
+        // No call writes d, so it is the same at entry and at exit.
         self.elements(D, &self.buffers[D], &mut record);
-        self.elements(D, &answer.d, &mut record);
+        self.elements(D, &self.buffers[D], &mut record);
         out.write_all(&record)?;
         Ok(record.len() as u64)
     }
