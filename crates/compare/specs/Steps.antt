@@ -7,12 +7,13 @@
 use mathlib.Core.Bool.{Bool, true}
 use mathlib.Core.List.{List}
 use Prim.Native.Nat.{ℕ, zero, suc}
-use lib.Dec.{eqb}
+use lib.Dec.{eqb, leb}
+use lib.ListN.{take}
 use Rattle.places.specs.Pick.{pick, either}
 use Rattle.contents.specs.declared.FileAnswer.{FileAnswer}
 use Rattle.contents.specs.declared.FileAnswer.the-variants.{Done, Runs, Range}
 use Rattle.contents.specs.Answers.{fileAnswer, numberOf, isDone}
-use Rattle.contents.specs.Contents.{editionOr, entryOr, rangeOr, contentsTests}
+use Rattle.contents.specs.Contents.{editionOr, countOr, contentsSize, entryOr, rangeOr, contentsTests}
 use Rattle.bodies.specs.Bodies.{blockOf, bodyTests}
 use Rattle.bodies.specs.Ranges.{isRange}
 
@@ -46,3 +47,12 @@ stepOf answer front i body =
 unfoldable pub answerAfter : (front : List ℕ) (size : ℕ) (bodies : ℕ → List ℕ) (n : ℕ) → FileAnswer
 answerAfter front size bodies zero = fileAnswer (contentsTests front size)
 answerAfter front size bodies (suc n) = stepOf (answerAfter front size bodies n) front n (bodies n)
+
+-- Of a file the first four bytes are read, and then so many: the contents, which have at most 8,196 bytes. Where the four say more, no more than these
+-- are read.
+unfoldable pub frontSize : (head : List ℕ) → ℕ
+frontSize head = pick (leb (contentsSize (editionOr head) (countOr head)) 8196) (contentsSize (editionOr head) (countOr head)) 4
+
+-- This is the front of a file that is read so.
+unfoldable pub frontOf : (l : List ℕ) → List ℕ
+frontOf l = take (frontSize (take 4 l)) l

@@ -1,6 +1,7 @@
 // What two column files differ in (document 02, Item 12), for a program that holds the contents and one body of each file at a
 // time: the check of a file body by body, the blocks that are in both files, and the places at which two blocks differ.
 use contents::FileAnswer;
+use contents::contents_length;
 use contents::edition;
 use contents::entry_or;
 use contents::range_or;
@@ -15,13 +16,25 @@ ghost use Rattle.contents.specs.Contents.{countOr, entryOr};
 ghost use Rattle.bodies.specs.Bodies.{blockOf, bodyTests, blockTests, blockLeaves};
 ghost use Rattle.compare.specs.Changes.{differing as differingIn, listedOf, changeAt};
 ghost use Rattle.compare.specs.InnerSame.{sameOf};
-ghost use Rattle.compare.specs.Steps.{inBlock, bodyAnswer, rangeAnswer, isOpen, stepOf};
+ghost use Rattle.compare.specs.Steps.{inBlock, bodyAnswer, rangeAnswer, isOpen, stepOf, frontSize};
 
 // A row whose numbers differ.
 pub struct Change {
     pub row: u64,
     pub left: u64,
     pub right: u64,
+}
+
+// How many bytes of a file are its front, by its first four: the contents, and no more than the four where these say more contents than
+// there can be.
+pub fn front_length(head: &[u8]) -> usize
+    ensures { λ r. ⌜ r ≡ frontSize (now (head .entry)) ⌝ }
+{
+    let size = contents_length(head);
+    if size <= 8196 {
+        return size;
+    }
+    4
 }
 
 // The answer to a file with one body more. It begins with that to the contents, takes the bodies in their order, and is after the
