@@ -179,7 +179,7 @@ fn list_places(left: &[u64], right: &[u64], places: &mut [u16]) -> usize
 {
     let mut n = 0;
     let mut i = 0;
-    while i < 1024 {
+    while i < left.len() {
         if left[i] != right[i] {
             places[n] = i as u16;
             n += 1;

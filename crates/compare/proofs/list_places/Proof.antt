@@ -4,6 +4,7 @@ use mathlib.Core.Logic.{⊎-elim}
 use mathlib.Core.Path.{sym, _∙_}
 use Prim.Native.Nat.{_-_}
 use native.Mathlib.Omega.{arith}
+use lib.ListN.{length}
 use borrow.Author.Needs.{needs}
 use Rattle.compare.proofs.Noted.{Noted, noted-none, noted-few, noted-length, noted-same, noted-other, noted-all}
 use Rattle.compare.proofs.list_places.Statement.{statement}
@@ -13,7 +14,7 @@ abbrev Inv-loop : tie.InvT-loop
 Inv-loop left right places₀ n₀ i₀ places n i = Noted left right places₀ places n i
 
 abbrev μ-loop : tie.MeasureT-loop
-μ-loop left right places₀ n₀ i₀ places n i = 1024 - i
+μ-loop left right places₀ n₀ i₀ places n i = length left - i
 
 loop-holds : tie.Need-loop-holds Inv-loop μ-loop
 loop-holds c = noted-none _ _ _ (c .pre .1 .1)
@@ -57,7 +58,7 @@ same-length : tie.Need-same-length Inv-loop μ-loop
 same-length c = noted-length (c .before .loop .inv) ∙ sym (c .before .before .pre .1 .1)
 
 returns : tie.Need-returns Inv-loop μ-loop
-returns c = noted-all (c .before .loop .inv) (c .loop-test .left)
+returns c = noted-all (c .before .loop .inv) (omega arith)
 
 pub list-places-spec : {M : Type 1} → statement M
 list-places-spec =
