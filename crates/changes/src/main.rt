@@ -1,14 +1,15 @@
-// Says what differs between two column files (document 02, Item 12): compares left.col with right.col in the folder where it is run, and
-// writes to standard output a line for each row whose numbers differ, `row left right`, rising; then `rows A B` where the row counts differ; and then
-// `differences K`. Both files are checked before anything is listed, and the first bad one, left before right, gives the only line, `refused
-// left X Y` or `refused right X Y`. A file that does not open or cannot be read gives 8 and 0, as one does that is cut short.
+// Says what differs between two column files (document 02, Item 12): compares left.col with right.col in the folder where it is
+// run, and writes to standard output a line for each row whose numbers differ, `row left right`, rising; then `rows A B` where
+// the row counts differ; and then `differences K`. Both files are checked before anything is listed, and the first bad one,
+// left before right, gives the only line, `refused left X Y` or `refused right X Y`. A file that does not open or cannot be
+// read gives 8 and 0, as one does that is cut short.
 //
-// It holds the contents of both files, one body and one block of each, and goes through the files twice by positions: once to check them and
-// once to compare them. What it decides is proved in the crate compare; here stand the reading, in the module read, the printing, in the module
-// print, and the two walks.
+// It holds the contents of both files, one body and one block of each, and goes through the files twice by positions: once to
+// check them and once to compare them. What it decides is proved in the crate compare; here stand the reading, in the module
+// read, the printing, in the module print, and the two walks.
 //
-// A file that changes between the walks: a body is tested again when it is read again, and no row is listed from one that is refused then.
-// The refusal of its file is the last line.
+// A file that changes between the walks: a body is tested again when it is read again, and no row is listed from one that is
+// refused then. The refusal of its file is the last line.
 mod print;
 mod read;
 
@@ -17,6 +18,7 @@ use compare::check_block;
 use compare::differing;
 use compare::is_open;
 use compare::row_count;
+use compare::same_range;
 use compare::step;
 use contents::FileAnswer;
 use contents::contents_length;
@@ -108,8 +110,8 @@ fn make_room(left: i32, right: i32, left_front: &[u8], right_front: &[u8], body:
     );
 }
 
-// How far the comparing is: the files, where the next body of each begins, how many bytes of the output are gathered, how many rows differ so far,
-// and whether a file was refused, which ends it.
+// How far the comparing is: the files, where the next body of each begins, how many bytes of the output are gathered, how many
+// rows differ so far, and whether a file was refused, which ends it.
 struct Walk {
     left: i32,
     right: i32,
@@ -120,8 +122,8 @@ struct Walk {
     refused: bool,
 }
 
-// What comparing a block of each file gives: how many places differ, which are listed; or the refusal of a file that has changed since it was
-// checked.
+// What comparing a block of each file gives: how many places differ, which are listed; or the refusal of a file that has
+// changed since it was checked.
 enum Found {
     Places(usize),
     Left(FileAnswer),
@@ -175,8 +177,8 @@ fn list_changes(
     }
 }
 
-// Compares block i of both files, and puts a line for each row that differs to the output. Where a file is refused, its refusal is the last line,
-// and later blocks are not looked at.
+// Compares block i of both files, and puts a line for each row that differs to the output. Where a file is refused, its refusal
+// is the last line, and later blocks are not looked at.
 fn list_block(
     walk: Walk,
     i: u16,
@@ -262,7 +264,9 @@ fn compare_block(
     )
 }
 
-// Compares block i of both files, which are laid down. Their ranges are looked at again only where a row is listed.
+// Compares block i of both files, which are laid down. Their ranges are looked at again where a row is listed, and where the files
+// do not say the same one: equal blocks with equal ranges are both right or both wrong, so that a change of one file does not hide
+// there.
 fn compare_laid(
     i: usize,
     left_front: &[u8],
@@ -273,7 +277,9 @@ fn compare_laid(
 ) -> Found {
     let k = differing(left_block, right_block, places);
     if k == 0 {
-        return Found::Places(0);
+        if same_range(left_front, right_front, i) {
+            return Found::Places(0);
+        }
     }
     let answer = check_block(left_front, i, left_block);
     if answer.number() != 0 {

@@ -16,7 +16,8 @@ fn not_below_zero(x: i64) -> usize {
     x as usize
 }
 
-// Reads the contents of a file, and says how many bytes of them are there: first the four bytes that say how many they are, and then the rest.
+// Reads the contents of a file, and says how many bytes of them are there: first the four bytes that say how many they are, and
+// then the rest.
 pub fn read_front(fd: i32, front: &mut [u8]) -> usize
     ensures { λ r. ⌜ r ≤ length (now (front .entry)) ⌝ }
 {
@@ -60,8 +61,8 @@ pub fn next_start(at: usize, long: u32) -> usize {
     at
 }
 
-// Reads into all of part what stands from `at` on in the file, and says how many bytes are there. It goes on after a read that gave fewer bytes than
-// asked, and stops at the end of the file or where a read fails.
+// Reads into all of part what stands from `at` on in the file, and says how many bytes are there. It goes on after a read that
+// gave fewer bytes than asked, and stops at the end of the file or where a read fails.
 fn read_at(fd: i32, at: usize, part: &mut [u8]) -> usize
     ensures { λ r. ⌜ r ≤ length (now (part .entry)) ⌝ }
 {
@@ -79,8 +80,8 @@ fn read_at(fd: i32, at: usize, part: &mut [u8]) -> usize
     done
 }
 
-// One read; 0 where it fails. A read that was interrupted is tried again. A proved loop has to end, so it counts its turns down from a number that
-// no signals use up.
+// One read; 0 where it fails. A read that was interrupted is tried again. A proved loop has to end, so it counts its turns down
+// from a number that no signals use up.
 fn read_some(fd: i32, at: usize, part: &mut [u8]) -> usize
     ensures { λ r. ⌜ r ≤ length (now (part .entry)) ⌝ }
 {

@@ -2,13 +2,15 @@
 -- Assumes nothing.
 use mathlib.Core.Bool.{Bool, true, false, _||_}
 use mathlib.Core.List.{List}
-use mathlib.Core.Path.{_≡_, refl, sym, ap, _∙_}
+use mathlib.Core.Path.{_≡_, refl, sym, ap, ap₂, _∙_}
 use Prim.Native.Nat.{ℕ}
 use native.Mathlib.Decide.{ℕ-discrete}
 use native.Mathlib.Omega.{arith}
+use lib.Dec.{eqb}
 use lib.ListN.{length}
-use borrow.Author.Tests.{eq-eqb, ne-eqb}
+use borrow.Author.Tests.{eq-eqb, ne-eqb, eqb-true}
 use Rattle.places.specs.Pick.{pick, either}
+use Rattle.places.proofs.Tests.{both-true}
 use Rattle.contents.specs.declared.FileAnswer.{FileAnswer}
 use Rattle.contents.specs.declared.FileAnswer.the-variants.{Done, Runs, Range}
 use Rattle.contents.specs.Answers.{fileAnswer, numberOf, isDone, left}
@@ -17,7 +19,7 @@ use Rattle.contents.proofs.Answers.{passed, number-done}
 use Rattle.contents.specs.declared.Entry.{Entry}
 use Rattle.bodies.specs.Bodies.{blockOf, bodyTests, blockTests, blockLeaves}
 use Rattle.bodies.specs.Ranges.{isRange}
-use Rattle.compare.specs.Steps.{inBlock, bodyAnswer, rangeAnswer, first, isOpen, stepOf}
+use Rattle.compare.specs.Steps.{inBlock, bodyAnswer, rangeAnswer, sameRange, first, isOpen, stepOf}
 
 -- Two tests that are joined in code.
 pub or-either : (a b : Bool) → (a || b) ≡ either a b
@@ -49,6 +51,17 @@ module _ (front : List ℕ) (i : ℕ) (block : List ℕ) where
   pub range-held : editionOr front ≡ 2 → rangeAnswer front i block ≡ pick (isRange (rangeOr front i) block) Done (Range i)
   unfolding rangeAnswer
   range-held e = ap (λ t. pick (pick t (isRange (rangeOr front i) block) true) Done (Range i)) (eq-eqb (editionOr front) 2 e)
+
+-- Two files that say the same of a range are answered alike for a block that is the same in both.
+pub range-alike : (left right : List ℕ) (i : ℕ) (block : List ℕ) → sameRange left right i ≡ true → rangeAnswer left i block ≡ rangeAnswer right i block
+unfolding rangeAnswer sameRange
+range-alike left right i block e =
+    let t = both-true (eqb (editionOr left) (editionOr right)) _ e in
+    let r = both-true (eqb (rangeOr left i .smallest) (rangeOr right i .smallest)) (eqb (rangeOr left i .largest) (rangeOr right i .largest)) (t .1) in
+    let small : rangeOr left i .smallest ≡ rangeOr right i .smallest = eqb-true _ _ (r .0) in
+    let large : rangeOr left i .largest ≡ rangeOr right i .largest = eqb-true _ _ (r .1) in
+    ap (λ e. pick (pick (eqb e 2) (isRange (rangeOr left i) block) true) Done (Range i)) (eqb-true (editionOr left) (editionOr right) (t .0))
+    ∙ ap₂ (λ s l. pick (pick (eqb (editionOr right) 2) (isRange (record { smallest = s; largest = l }) block) true) Done (Range i)) small large
 
 -- A body that passes its tests is laid down.
 pub block-laid : (e : Entry) (body output : List ℕ) → fileAnswer (bodyTests e body) ≡ Done → length output ≡ 1024 → blockLeaves e body output ≡ blockOf e body

@@ -1,4 +1,5 @@
--- The answer after all bodies of a file is the answer to the whole file: 13 for any block comes before 15 for any, with the lowest block as place.
+-- The answer after all bodies of a file is the answer to the whole file: 13 for any block comes before 15 for any, with the lowest block as
+-- place.
 -- Assumes nothing.
 use mathlib.Core.Bool.{Bool, true, false}
 use mathlib.Core.List.{List, [], _∷_}

@@ -16,7 +16,7 @@ ghost use Rattle.contents.specs.Contents.{countOr, entryOr};
 ghost use Rattle.bodies.specs.Bodies.{blockOf, bodyTests, blockTests, blockLeaves};
 ghost use Rattle.compare.specs.Changes.{differing as differingIn, listedOf, changeAt};
 ghost use Rattle.compare.specs.InnerSame.{sameOf};
-ghost use Rattle.compare.specs.Steps.{inBlock, bodyAnswer, rangeAnswer, isOpen, stepOf, frontSize};
+ghost use Rattle.compare.specs.Steps.{inBlock, bodyAnswer, rangeAnswer, sameRange, isOpen, stepOf, frontSize};
 
 // A row whose numbers differ.
 pub struct Change {
@@ -25,8 +25,8 @@ pub struct Change {
     pub right: u64,
 }
 
-// How many bytes of a file are its front, by its first four: the contents, and no more than the four where these say more contents than
-// there can be.
+// How many bytes of a file are its front, by its first four: the contents, and no more than the four where these say more
+// contents than there can be.
 pub fn front_length(head: &[u8]) -> usize
     ensures { λ r. ⌜ r ≡ frontSize (now (head .entry)) ⌝ }
 {
@@ -37,8 +37,8 @@ pub fn front_length(head: &[u8]) -> usize
     4
 }
 
-// The answer to a file with one body more. It begins with that to the contents, takes the bodies in their order, and is after the
-// last of them the answer to the whole file.
+// The answer to a file with one body more. It begins with that to the contents, takes the bodies in their order, and is after
+// the last of them the answer to the whole file.
 pub fn step(answer: FileAnswer, front: &[u8], i: usize, body: &[u8]) -> FileAnswer
     ensures { λ r. ⌜ r ≡ stepOf answer (now (front .entry)) i (now (body .entry)) ⌝ }
 {
@@ -114,6 +114,16 @@ pub fn check_block(front: &[u8], i: usize, block: &[u64]) -> FileAnswer
     FileAnswer::Range(i)
 }
 
+// Whether two files say the same of the range of block i. Where they do, a block that is the same in both has its true range in
+// both or in neither.
+pub fn same_range(left: &[u8], right: &[u8], i: usize) -> bool
+    ensures { λ r. ⌜ r ≡ sameRange (now (left .entry)) (now (right .entry)) i ⌝ }
+{
+    let a = range_or(left, i);
+    let b = range_or(right, i);
+    (edition(left) == edition(right)) & ((a.smallest == b.smallest) & (a.largest == b.largest))
+}
+
 // How many blocks are in both files, by their contents.
 pub fn blocks_in_both(left: &[u8], right: &[u8]) -> u16
     ensures { λ r. ⌜ r ≡ min (countOr (now (left .entry))) (countOr (now (right .entry))) ⌝ }
@@ -133,8 +143,8 @@ pub fn row_count(front: &[u8]) -> u64
     pair(front, 2) as u64 * 1024
 }
 
-// Lists the places at which two blocks differ, rising, from the front of `places` on, and says how many they are. Where a block or the
-// room for places is not 1,024 long, nothing is compared. Equal blocks are not gone through place by place.
+// Lists the places at which two blocks differ, rising, from the front of `places` on, and says how many they are. Where a block
+// or the room for places is not 1,024 long, nothing is compared. Equal blocks are not gone through place by place.
 pub fn differing(left: &[u64], right: &[u64], places: &mut [u16]) -> usize
     ensures { λ r. ⌜ r ≡ length (listedOf (now (left .entry)) (now (right .entry)) (now (places .entry))) ⌝ }
     ensures { λ _. ⌜ now (places .exit) ≡ over 0 (listedOf (now (left .entry)) (now (right .entry)) (now (places .entry))) (now (places .entry)) ⌝ }
