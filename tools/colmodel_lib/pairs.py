@@ -77,7 +77,15 @@ def pairs_refused():
     of_entry, of_index = "10 entry wrong, way 2", "13 run index, way 1"
     for left, right in (("not there", "not there"), (of_index, "not there"), ("not there", of_entry), (of_index, of_entry)):
         yield Pair(f"left: {left}; right: {right}", bad[left], bad[right])
+    yield Pair("left: 15 below 13", column_file(mixed_refusals(), 2), good)
+    yield Pair("right: 15 below 13", good, column_file(mixed_refusals(), 2))
     yield Pair("a run block of edition 2", good, column_file([frame(0, b"", 7), encodings.as_runs([7] * 1024)], 2))
+
+
+def mixed_refusals():
+    """Blocks of which the first says a range that is not the true one, and the last has a run index out of range."""
+    bad = with_index(encodings.as_runs([7] * 1024), 5, 9)
+    return [frame(0, b"", 7).but(largest=8), frame(0, b"", 7), bad]
 
 
 def large_pairs(dice):

@@ -1,0 +1,118 @@
+// The lines on standard output. They are gathered in a buffer, and written when it is nearly full and at the end.
+use compare::Change;
+use compare::change_at;
+use contents::FileAnswer;
+use libc::STDOUT_FILENO;
+ghost use Prim.Native.Nat.{_≤_};
+
+// The most bytes that a line has: `refused right`, or a row and two numbers, with spaces and a newline, are fewer.
+const LINE: usize = 80;
+
+// The only line, or the last one, where a file is refused.
+pub fn write_refusal(side: &[u8], answer: FileAnswer) {
+    let mut line = [0u8; LINE];
+    put_refusal(side, answer, &mut line);
+}
+
+fn put_refusal(side: &[u8], answer: FileAnswer, line: &mut [u8]) {
+    let at = put_text(b"refused ", line, 0);
+    let at = put_text(side, line, at);
+    let at = put_text(b" ", line, at);
+    let at = put_number(answer.number() as u64, line, at);
+    let at = put_text(b" ", line, at);
+    let at = put_number(answer.place() as u64, line, at);
+    let at = put_text(b"\n", line, at);
+    write_out(line, at);
+}
+
+// The last lines, behind what is gathered: the row counts where they differ, and how many rows differ.
+pub fn write_end(left: u64, right: u64, differences: u64, out: &mut [u8], from: usize) {
+    let at = put_rows(left, right, out, write_if_full(out, from));
+    let at = put_text(b"differences ", out, write_if_full(out, at));
+    let at = put_number(differences, out, at);
+    let at = put_text(b"\n", out, at);
+    write_out(out, at);
+}
+
+fn put_rows(left: u64, right: u64, out: &mut [u8], at: usize) -> usize {
+    if left == right {
+        return at;
+    }
+    let at = put_text(b"rows ", out, at);
+    let at = put_number(left, out, at);
+    let at = put_text(b" ", out, at);
+    let at = put_number(right, out, at);
+    put_text(b"\n", out, at)
+}
+
+// A line for each of the n places of block i that are listed.
+pub fn put_changes(
+    i: u16,
+    left: &[u64],
+    right: &[u64],
+    places: &[u16],
+    n: usize,
+    out: &mut [u8],
+    from: usize,
+) -> usize {
+    let mut at = from;
+    let mut k = 0;
+    while k < n {
+        if places.len() <= k {
+            return at;
+        }
+        let change = change_at(i, left, right, places[k]);
+        at = put_change(change, out, write_if_full(out, at));
+        k += 1;
+    }
+    at
+}
+
+fn put_change(change: Change, out: &mut [u8], at: usize) -> usize {
+    let at = put_number(change.row, out, at);
+    let at = put_text(b" ", out, at);
+    let at = put_number(change.left, out, at);
+    let at = put_text(b" ", out, at);
+    let at = put_number(change.right, out, at);
+    put_text(b"\n", out, at)
+}
+
+// A number in decimal, from place `at` on; gives the place behind it.
+fn put_number(n: u64, out: &mut [u8], at: usize) -> usize {
+    let mut digits = [0u8; 20];
+    let k = io::decimal(n, &mut digits);
+    put_text(&digits[..k], out, at)
+}
+
+// A text, from place `at` on, as far as there is room; gives the place behind it.
+fn put_text(text: &[u8], out: &mut [u8], from: usize) -> usize {
+    let mut at = from;
+    let mut i = 0;
+    while i < text.len() {
+        if out.len() <= at {
+            return at;
+        }
+        out[at] = text[i];
+        at += 1;
+        i += 1;
+    }
+    at
+}
+
+// Where the next line goes: where there is no room for one, what is gathered is written, and the line goes to the front.
+fn write_if_full(out: &[u8], at: usize) -> usize {
+    if at < out.len() {
+        if LINE <= out.len() - at {
+            return at;
+        }
+    }
+    write_out(out, at);
+    0
+}
+
+// Writes what is gathered.
+pub fn write_out(out: &[u8], at: usize) {
+    if at <= out.len() {
+        io::write_all(STDOUT_FILENO, &out[..at]);
+    }
+}

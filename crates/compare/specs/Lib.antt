@@ -1,0 +1,4 @@
+pub mod Changes
+pub mod InnerSame
+pub mod Plain
+pub mod Steps
