@@ -34,6 +34,7 @@ fn takes(op: u8, size: usize) -> Intake {
         19 => Intake::of(8, 0, 1, false),
         20 => Intake::of(1, 8, 8, false),
         21 => Intake::of(1, 0, 1, false),
+        22 => Intake::of(1, 0, 0, false),
         24 | 25 => Intake::of(size, 0, size, true),
         26 => Intake::of(1, 8, 8, false),
         30 => Intake::of(1, 8, 8, true),
@@ -109,6 +110,7 @@ pub fn call(head: Head, a: &[u8], bounds: &[u64; 2], c: &mut [u64]) -> Reply {
         17 => reply(files::block_out(a, index, c), 0),
         18 => of_row(files::row_at(a, index)),
         20 => of_found(search::search(a, bounds[0], bounds[1], c)),
+        22 => reply(canonical::check(a), 0),
         _ => Reply::Unknown,
     }
 }
