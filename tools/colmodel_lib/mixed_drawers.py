@@ -57,7 +57,8 @@ def some_faults(dice, t, width, blocks):
         if sort == 0:
             width = dice.pick((t + 1, t + 1, 2 * t, 256 + width, dice.below(2**16)))
         elif sort == 1:
-            blocks = dice.pick((blocks + 1, max(blocks - 1, 0), blocks + 256, blocks + 2**54, *TOO_MANY, dice.number()))
+            counts = (blocks + 1, max(blocks - 1, 0), blocks + 256, blocks + 2**54, *TOO_MANY, dice.number())
+            blocks = min(dice.pick(counts), 2**64 - 1)
         elif sort == 2:
             values = other_length(dice, values, 1024)
         else:
