@@ -1,7 +1,9 @@
-// The calls on a column file, on a file of zeros but for its contents. Call 16 checks the contents of a file of 256 empty
-// frames, or of none where start is 0; call 17 takes out the block of a file of one block, of the kind that start says. A block of
-// kind 3 has no width, and the request's says how many run values there are: eight times as many. The file is of edition 1, and of
-// edition 2 where the request has a step: its values are zeros, and so are the smallest and the largest of them.
+// The calls that read a column file, on a file of zeros but for its contents. Call 16 checks the contents of a file of 256 empty
+// frames, or of none where start is 0; call 17 takes out the block of a file of one block, of the kind that start says. Call 20
+// searches the first file where the request has no width, for a number that no block has, and else the second, for that of all
+// its rows. A block of kind 3 has no width, and the request's says how many run values there are: eight times as many. The file is
+// of edition 1, and of edition 2 where the request has a step: its values are zeros, and so are the smallest and the largest of
+// them.
 use crate::Outcome;
 use crate::Request;
 use crate::UNKNOWN;
@@ -22,10 +24,11 @@ pub fn run(request: Request) -> Outcome {
     let n = size(request, all);
     let part = &all[..n];
     let mut out: Block = [0; 1024];
-    let mut answers = once(op, part, &mut out);
+    let bound = if request.width == 0 { 1 } else { 0 };
+    let mut answers = once(op, bound, part, &mut out);
     let mut turns = request.turns;
     while turns > 0 {
-        let answer = once(op, part, &mut out);
+        let answer = once(op, bound, part, &mut out);
         answers = std::num::wrapping_add_usize(answers, answer);
         turns -= 1;
     }
@@ -36,10 +39,11 @@ pub fn run(request: Request) -> Outcome {
 }
 
 // One turn: the call, and the number of its answer.
-fn once(op: u8, file: &[u8], out: &mut Block) -> usize {
+fn once(op: u8, bound: u64, file: &[u8], out: &mut Block) -> usize {
     match op {
         16 => contents::check(file, file.len()).number(),
         17 => files::block_out(file, 0, out).number(),
+        20 => search::search(file, bound, bound, out).answer().number(),
         _ => UNKNOWN,
     }
 }
@@ -48,7 +52,7 @@ fn once(op: u8, file: &[u8], out: &mut Block) -> usize {
 fn file_of(request: Request) -> File {
     let mut file: File = [0; 10276];
     file[0] = if is_second(request) { 2 } else { 1 };
-    if request.op == 16 {
+    if of_entries(request) {
         file[3] = request.start;
         let mut i = 0;
         while i < 256 {
@@ -72,12 +76,17 @@ fn file_of(request: Request) -> File {
 fn size(request: Request, file: &[u8]) -> usize
     ensures { λ r. ⌜ Counts r (now (file .entry)) ⌝ }
 {
-    let n = if request.op == 16 {
+    let n = if of_entries(request) {
         all_entries(request)
     } else {
         entry_at(request, 1) + body(request)
     };
     if n <= file.len() { n } else { 0 }
+}
+
+// Whether the file is the one of entries alone.
+fn of_entries(request: Request) -> bool {
+    request.op == 16 || (request.op == 20 && request.width == 0)
 }
 
 fn is_second(request: Request) -> bool {

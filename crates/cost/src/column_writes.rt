@@ -4,11 +4,12 @@ use crate::Outcome;
 use crate::Request;
 use deltas::t64::undelta;
 use little::read_words;
+ghost use Prim.Native.Nat.{_≤_};
 ghost use Rattle.io.specs.Counts.{Counts};
 
-type Block = [u64; 1024];
+pub type Block = [u64; 1024];
 
-type Output = [u8; 8228];
+pub type Output = [u8; 8228];
 
 // Makes the call turn after turn, the first one before the loop as in the modules of the sizes.
 pub fn run(request: Request) -> Outcome {
@@ -36,24 +37,32 @@ fn once(values: &Block, width: usize, output: &mut Output) -> usize {
 // The room is known at run time only. Where the compiler sees that it is enough for every block, it leaves out the pass that
 // finds the length of the file.
 fn write(values: &[u64], width: usize, output: &mut [u8]) -> usize {
-    let n = room(width, output);
+    let n = room(true, width, output);
     writer::write(values, &mut output[..n]).answer().number()
 }
 
-// How many bytes the file of one block has, where its body has so many rows; none where that is more than there are.
-fn room(rows: usize, output: &[u8]) -> usize
+// How many bytes the file of one block has, of edition 2 or of edition 1, where its body has so many rows; none where that is more
+// than there are.
+pub fn room(second: bool, rows: usize, output: &[u8]) -> usize
     ensures { λ r. ⌜ Counts r (now (output .entry)) ⌝ }
 {
     if 256 <= rows {
         return 0;
     }
-    let n = 36 + 128 * rows;
+    let n = contents_of(second) + 128 * rows;
     if n <= output.len() { n } else { 0 }
+}
+
+// The bytes of the contents of one block.
+fn contents_of(second: bool) -> usize
+    ensures { λ r. ⌜ r ≤ 36 ⌝ }
+{
+    if second { 36 } else { 20 }
 }
 
 // Numbers of 17 bits that go up and down, with 0 among them; the same numbers far above 0; or lanes that rise by one and the
 // same number of 17 bits.
-fn block_of(kind: u8) -> Block {
+pub fn block_of(kind: u8) -> Block {
     match kind {
         0 => scattered(0),
         1 => scattered(0x100_0000_0000),
@@ -79,7 +88,7 @@ fn rising() -> Block {
 }
 
 // The sum of the first 1,024 words of the output, modulo 2^64.
-fn sum_of(output: &Output) -> u64 {
+pub fn sum_of(output: &Output) -> u64 {
     let mut words: Block = [0; 1024];
     read_words(output, &mut words);
     crate::t64::sum(&words)

@@ -6,7 +6,7 @@
 //     t         the element size: 8, 16, 32 or 64
 //     width     the width, for the calls that take one
 //     start     the first value of the input block, and of a drawer also how many blocks there are; for the calls on a column file
-//               see column_files and column_writes, and for those on a body that trickles in see trickles
+//               see column_files, column_writes and column_rewrites, and for those on a body that trickles in see trickles
 //     step      from each value to the next, modulo 256
 //     turns     how often to call again after the first call: three bytes, the lowest first
 //
@@ -15,9 +15,11 @@
 // and all that a call takes is known at run time only.
 //
 // Here the request is read and the line is printed. The modules t8, t16, t32 and t64 make the calls, bit_blocks those on bit blocks,
-// column_files and column_writes those on column files, trickles those on a body that trickles in, and element turns bytes into elements and these into numbers.
+// column_files, column_writes and column_rewrites those on column files, trickles those on a body that trickles in, and element turns
+// bytes into elements and these into numbers.
 mod bit_blocks;
 mod column_files;
+mod column_rewrites;
 mod column_writes;
 mod element;
 mod t16;
@@ -93,11 +95,14 @@ fn run(request: Request) -> Outcome {
     if op == 13 || op == 14 {
         return bit_blocks::run(request);
     }
-    if op == 16 || op == 17 {
+    if op == 16 || op == 17 || op == 20 {
         return column_files::run(request);
     }
     if op == 19 {
         return column_writes::run(request);
+    }
+    if op == 21 || op == 22 {
+        return column_rewrites::run(request);
     }
     if op == 24 || op == 25 {
         return on_drawer(request);

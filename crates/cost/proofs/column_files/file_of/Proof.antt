@@ -17,6 +17,9 @@ is-second-requires c κs = search needs
 array-write-file : tie.Need-array-write-file Inv-loop μ-loop
 array-write-file c = search needs
 
+of-entries-requires : tie.Need-of-entries-requires Inv-loop μ-loop
+of-entries-requires c κs = search needs
+
 array-write-file-2 : tie.Need-array-write-file-2 Inv-loop μ-loop
 array-write-file-2 c = search needs
 
@@ -79,6 +82,7 @@ file-of-spec =
     μ-loop
     is-second-requires
     array-write-file
+    of-entries-requires
     array-write-file-2
     loop-holds
     entry-at-requires

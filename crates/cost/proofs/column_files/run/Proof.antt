@@ -5,10 +5,10 @@ use Rattle.cost.proofs.column_files.run.Statement.{statement}
 use Rattle.cost.proofs.column_files.run.Tie as tie
 
 abbrev Inv-loop : tie.InvT-loop
-Inv-loop op n part out₀ answers₀ turns₀ out answers turns = Unit {0}
+Inv-loop op n part bound out₀ answers₀ turns₀ out answers turns = Unit {0}
 
 abbrev μ-loop : tie.MeasureT-loop
-μ-loop op n part out₀ answers₀ turns₀ out answers turns = turns
+μ-loop op n part bound out₀ answers₀ turns₀ out answers turns = turns
 
 file-of-requires : tie.Need-file-of-requires Inv-loop μ-loop
 file-of-requires c κs = search needs

@@ -5,6 +5,9 @@ use Rattle.io.proofs.Counting.{counts}
 use Rattle.cost.proofs.column_files.size.Statement.{statement}
 use Rattle.cost.proofs.column_files.size.Tie as tie
 
+of-entries-requires : tie.Need-of-entries-requires
+of-entries-requires c κs = search needs
+
 all-entries-requires : tie.Need-all-entries-requires
 all-entries-requires c κs = search needs
 
@@ -26,4 +29,4 @@ returns-2 c = search needs
 pub size-spec : {M : Type 1} → statement M
 size-spec =
     tie.close
-    (tie.spec all-entries-requires entry-at-requires body-requires add-n returns returns-2)
+    (tie.spec of-entries-requires all-entries-requires entry-at-requires body-requires add-n returns returns-2)

@@ -8,6 +8,9 @@ use Rattle.cost.proofs.column_writes.room.Tie as tie
 returns : tie.Need-returns
 returns c = search needs
 
+contents-of-requires : tie.Need-contents-of-requires
+contents-of-requires c κs = search needs
+
 mul-n : tie.Need-mul-n
 mul-n c = search needs
 
@@ -21,4 +24,4 @@ returns-3 : tie.Need-returns-3
 returns-3 c = search needs
 
 pub room-spec : {M : Type 1} → statement M
-room-spec = tie.close (tie.spec returns mul-n add-n returns-2 returns-3)
+room-spec = tie.close (tie.spec returns contents-of-requires mul-n add-n returns-2 returns-3)
