@@ -34,7 +34,7 @@ use Rattle.writer.specs.Writer.{fileOf}
 use Rattle.writer.proofs.ReadBack.{edition-is, range-read, body-read, file-accepted}
 use Rattle.rewrite.specs.Rewrite.{newFile}
 use Rattle.rewrite.proofs.Item11.{rewrite-same, rewrite-twice, new-accepted, new-edition, new-count, new-entry}
-use Rattle.rewrite.proofs.Rows.{right, few, rows-long, block-at}
+use Rattle.rewrite.proofs.Rows.{right, few, rows-long, rows-whole, block-at}
 use Rattle.canonical.specs.Canonical.{isSameEntry, isSame, isOurs, foreign, canonicalTests}
 use Rattle.canonical.specs.Plain.{Ours, CanonicalReason, of-file, first-edition, a-foreign, as-ours}
 use Rattle.canonical.proofs.Calls.{not-read, not-second, is-foreign, none-foreign}
@@ -135,7 +135,19 @@ written-accepted values b fits =
     (as-ours (file-exactly (fileOf values) Done .0 (file-accepted values (b .n) (b .whole) (b .few) fits)) (edition-is values (b .n) (b .whole) (b .few) fits)
     (sym (rewrite-same values b fits)))
 
--- and so is one that our rewrite gave.
+-- and no other file is: the check says yes exactly when the file is what the writer gives for some numbers of 64 bits in whole blocks, at most 256 of them.
+pub canonical-yes : (l : List ℕ) → Elements 8 l
+    → (fileAnswer (canonicalTests l) ≡ Done) ↔ ((values : List ℕ) × Blocks values × Elements t64 values × (l ≡ fileOf values))
+canonical-yes l bytes = (
+  λ e. own (canonical-exactly l bytes Done .0 e),
+  λ v. ap (λ x. fileAnswer (canonicalTests x)) (v .3) ∙ written-accepted (v .0) (v .1) (v .2),
+)
+  where
+    own : CanonicalReason l Done → (values : List ℕ) × Blocks values × Elements t64 values × (l ≡ fileOf values)
+    own (of-file a n r) = absurd (n refl)
+    own (as-ours r second e) = let done = reason-gives l r in (rowsOf l, rows-whole l done, rows-fit l bytes done, e)
+
+-- So is one that our rewrite gave.
 pub rewritten-accepted : (l : List ℕ) → Elements 8 l → fileAnswer (fileTests l) ≡ Done → fileAnswer (canonicalTests (newFile l)) ≡ Done
 rewritten-accepted l bytes done =
     canonical-exactly (newFile l) (λ k. file-bytes (rowsOf l) k) Done .1

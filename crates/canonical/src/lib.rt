@@ -1,6 +1,7 @@
 // Whether a column file that another program wrote is, byte for byte, what our writer would give for the rows that it holds
 // (document 02, Item 14). The reader's check comes first. Then each block is laid down, the writer's entry and body for it are
-// made, and both are held to those of the file: there is room for one block and one body, and never for a whole file.
+// made, and both are held to those of the file: there is room for one block of values and one body, beside the arrays in which the
+// candidates of a block are made, and never for a whole file.
 use candidates::lay_block;
 use contents::Entry;
 use contents::FileAnswer;

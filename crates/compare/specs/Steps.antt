@@ -1,6 +1,7 @@
 -- The check of a file body by body (document 02, Items 1, 9 and 12), for a program that holds the contents of the file and one body at a time:
 -- what the answer so far becomes with the next body. A run index out of range in any block comes before a range that is not the true one in any,
--- so the lowest of those is kept while the others are looked for.
+-- so the lowest of those is kept while the others are looked for. Since Item 11 no file whose contents are right has both; the order is kept for any
+-- front and any answer.
 --
 -- `front` is the front of the file, which has the contents.
 -- Assumes nothing.
@@ -21,7 +22,8 @@ use Rattle.bodies.specs.Ranges.{isRange}
 abbrev pub inBlock : (i : ℕ) (a : FileAnswer) → FileAnswer
 inBlock i a = pick (eqb (numberOf a) 13) (Runs i) a
 
--- This is what the tests of body i against its entry give: 13 where a run index is out of range.
+-- This is what the tests of body i against its entry give: 13 where a run index is out of range; behind right contents no other refusal comes, and
+-- else 10 has the place 0, as in those tests.
 unfoldable pub bodyAnswer : (front : List ℕ) (i : ℕ) (body : List ℕ) → FileAnswer
 bodyAnswer front i body = inBlock i (fileAnswer (bodyTests (entryOr front i) body))
 
@@ -39,7 +41,7 @@ sameRange left right i =
 abbrev pub first : (a b : FileAnswer) → FileAnswer
 first a b = pick (isDone a) b a
 
--- While nothing is refused, or no more than a range, a later body can change the answer.
+-- While nothing is refused, or no more than a range, a later body is looked at.
 abbrev pub isOpen : (a : FileAnswer) → Bool
 isOpen a = either (eqb (numberOf a) 0) (eqb (numberOf a) 15)
 

@@ -25,8 +25,8 @@ pub struct Change {
     pub right: u64,
 }
 
-// How many bytes of a file are its front, by its first four: the contents, and no more than the four where these say more
-// contents than there can be.
+// How many bytes of a file are its front, by its first four: the contents, and no more than the four where these say
+// contents of more than 8,196 bytes.
 pub fn front_length(head: &[u8]) -> usize
     ensures { λ r. ⌜ r ≡ frontSize (now (head .entry)) ⌝ }
 {
@@ -55,7 +55,8 @@ pub fn step(answer: FileAnswer, front: &[u8], i: usize, body: &[u8]) -> FileAnsw
     check_range(front, i, body)
 }
 
-// Whether a later body can change the answer to a file: nothing is refused, or no more than a range.
+// Whether a later body is looked at: nothing is refused, or no more than a range. Since Item 11 no file has both a run index out of range
+// and a range that is not the true one; the order of the two is kept for any front and any answer.
 pub fn is_open(answer: FileAnswer) -> bool
     ensures { λ r. ⌜ r ≡ isOpen answer ⌝ }
 {

@@ -26,7 +26,7 @@ pub enum FileAnswer {
     Block,
     // the file is cut short: in its first four bytes, in the entries or in the bodies
     Cut,
-    // the edition is neither 1 nor 2, or there are more than 256 blocks
+    // the edition is neither 1 nor 2, or there are more than 256 blocks; of the canonical check also a readable file of edition 1
     Edition,
     // an entry is not as laid out, or is of kind 3 in edition 2, or its smallest value is above its largest; the lowest such entry
     BadEntry(usize),

@@ -1,5 +1,6 @@
 -- What a call that goes over the bodies of a file, one after another, asks of one of them: entry i, and a body that begins at a place `at`. Any file
--- and any place will do. In a file whose contents are right, and with `at` where body i begins, these speak of body i and of block i: laws say so.
+-- and any place will do. In a file whose contents are right, and with `at` where body i begins, these speak of body i and of block i: laws say so, of the
+-- range in edition 2 and where the run indices are in range; in edition 1 the range that is not said is from 0 to the highest number of 64 bits.
 -- Assumes nothing.
 use mathlib.Core.Bool.{Bool}
 use mathlib.Core.List.{List, []}
@@ -20,7 +21,7 @@ bodyFrom l i at = pick (leb (at + entryOr l i .length) (length l)) (take (entryO
 unfoldable pub goodFrom : (l : List ℕ) (i at : ℕ) → Bool
 goodFrom l i at = isDone (fileAnswer (Bodies.bodyTests (entryOr l i) (bodyFrom l i at)))
 
--- These are the tests of laying its block down,
+-- These are the tests of laying its block down, where the place of 10 and of 13 is 0, as in the tests of one body,
 abbrev pub fromTests : (l : List ℕ) (i at : ℕ) (output : List ℕ) → List FileTest
 fromTests l i at output = Bodies.blockTests (entryOr l i) (bodyFrom l i at) output
 

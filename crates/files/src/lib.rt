@@ -1,8 +1,9 @@
 // The column file (document 02, Items 1 and 9): a check of the whole file, one block out, and the value at a file row. A file is
-// lent as bytes. Every call checks the whole file before it answers for a block or a row, by the steps that stand in crates of
+// lent as bytes. check, block_out and row_at check the whole file before they answer for a block or a row, by the steps that stand in crates of
 // their own: the contents against the file's length, each body against its entry, and in edition 2 the smallest and the largest
-// value of each block against what its entry says. Of an edition 1 file no call reads a body twice; of an edition 2 file every
-// call lays each block down once for its smallest and largest value, and one block out lays its block down once more.
+// value of each block against what its entry says. Of an edition 1 file none of them reads a body twice; of an edition 2 file each
+// lays every block down once for its smallest and largest value, and one block out lays its block down once more. The four calls
+// whose names end in from are for a walk over the bodies, behind a check: they look at one body, and check nothing else.
 use access::NO_COUNT;
 use access::Words;
 use bodies::is_range;
@@ -153,7 +154,7 @@ pub fn is_good_from(file: &[u8], i: usize, at: usize) -> bool
     bodies::check(entry_or(file, i), body_from(file, i, at)).number() == 0
 }
 
-// Lays down the block of entry i and of the body that begins at `at`.
+// Lays down the block of entry i and of the body that begins at `at`. There is one body here, so the place of 10 and of 13 is 0.
 pub fn block_from(file: &[u8], i: usize, at: usize, output: &mut [u64]) -> FileAnswer
     ensures { λ r. ⌜ r ≡ fileAnswer (fromTests (now (file .entry)) i at (now (output .entry))) ⌝ }
     ensures { λ _. ⌜ now (output .exit) ≡ fromLeaves (now (file .entry)) i at (now (output .entry)) ⌝ }

@@ -1,7 +1,7 @@
 // A readable column file, of either edition and of any kinds, is rewritten as the writer would write its rows (document 02, Item
-// 11). Beside the file and the output there is room for one block: each block is laid down from the file, and then measured or
-// written. The new file's length is known before the first byte is written, so a refused call writes nothing. For that each
-// block is laid down twice.
+// 11). Beside the file and the output there is room for one block of values, and for the candidates of one block: each block is laid
+// down from the file, and then measured or written. The new file's length is known before the first byte is written, so a refused
+// call writes nothing. For that each block is laid down twice behind the check.
 use candidates::entry_for;
 use candidates::lay_block;
 use contents::FileAnswer;

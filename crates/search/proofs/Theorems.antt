@@ -8,10 +8,11 @@ use mathlib.Core.Path.{_≡_, refl, sym, ap, ap₂, _∙_}
 use Prim.Native.Nat.{ℕ, _/_, _%_, _≤_, _<_, min, max}
 use native.Mathlib.Omega.{arith}
 use lib.Dec.{leb, eqb}
-use lib.ListN.{length, getD}
+use lib.ListN.{length, getD, take, drop}
 use borrow.Author.Tests.{le-leb, leb-true, eq-eqb, eqb-true}
 use Rattle.places.specs.Numbers.{Elements}
 use Rattle.places.specs.Pick.{pick, both, either}
+use Rattle.places.proofs.Overs.{over-front, over-rest}
 use Rattle.places.proofs.Tests.{both-true, either-true, false-true}
 use Rattle.contents.specs.declared.FileAnswer.{FileAnswer}
 use Rattle.contents.specs.declared.FileAnswer.the-variants.{Done}
@@ -27,7 +28,7 @@ use Rattle.search.specs.declared.Found.the-variants.{Rows, Refused}
 use Rattle.search.specs.Passing.{passing}
 use Rattle.search.specs.Plain.{Common, Opened, Stands, RowBetween, Rising}
 use Rattle.search.specs.Search.{between, meets, opens, opened, listed, found, searchTests, foundOf, searchLeaves, answerOf, rowsFound, blocksOpened}
-use Rattle.search.proofs.Answers.{search-refused}
+use Rattle.search.proofs.Answers.{search-refused, search-done}
 use Rattle.search.proofs.Blocks.{in-long}
 use Rattle.search.proofs.Members.{stands-passes, passes-stands, passing-rises}
 use Rattle.search.proofs.Passing.{passing-ext}
@@ -134,6 +135,44 @@ module _ (l : List ℕ) (low high : ℕ) (bytes : Elements 8 l) (done : fileAnsw
 pub lists-rising : (l : List ℕ) (low high : ℕ) → Rising (found l low high)
 unfolding found
 lists-rising l low high = passing-rises 0 (listed l low high) (rowCount l)
+
+-- Of any file, what is listed are exactly the rows of opened blocks that lie between the bounds,
+pub found-exactly : (l : List ℕ) (low high p : ℕ) → Stands p (found l low high) ↔ (RowBetween l low high p × Opened l low high (p / 1024))
+unfolding found listed
+found-exactly l low high p = (to, from)
+  where
+    to : Stands p (passing 0 (rowCount l) (listed l low high)) → RowBetween l low high p × Opened l low high (p / 1024)
+    to s =
+        let is = stands-passes 0 (listed l low high) (rowCount l) (s .0) (s .1) in
+        let t = both-true (opens l low high (p / 1024)) (between low high (rowAt l p)) (sym (ap (listed l low high) (s .2)) ∙ is .1 .1) in
+        ((omega (arith, is .1 .0, s .2), between-exactly low high (rowAt l p) .0 (t .1)), opens-exactly l low high (p / 1024) .0 (t .0))
+
+    from : RowBetween l low high p × Opened l low high (p / 1024) → Stands p (passing 0 (rowCount l) (listed l low high))
+    from h =
+        passes-stands 0 (listed l low high) (rowCount l) p (omega arith) (omega (arith, h .0 .0))
+        (ap₂ both (opens-exactly l low high (p / 1024) .1 (h .1)) (between-exactly low high (rowAt l p) .1 (h .0 .1)))
+
+-- and the blocks that are counted are exactly the opened ones, once each.
+pub opened-exactly : (l : List ℕ) (low high i : ℕ) → Stands i (opened l low high) ↔ ((i < count l) × Opened l low high i)
+unfolding opened
+opened-exactly l low high i = (
+  λ s.
+      let is = stands-passes 0 (opens l low high) (count l) (s .0) (s .1) in
+      (omega (arith, is .1 .0, s .2), opens-exactly l low high i .0 (sym (ap (opens l low high) (s .2)) ∙ is .1 .1)),
+  λ h. passes-stands 0 (opens l low high) (count l) i (omega arith) (omega (arith, h .0)) (opens-exactly l low high i .1 (h .1)),
+)
+
+pub opened-rising : (l : List ℕ) (low high : ℕ) → Rising (opened l low high)
+unfolding opened
+opened-rising l low high = passing-rises 0 (opens l low high) (count l)
+
+-- A search that is done leaves the rows at the front of the room, and what stands behind them as it was.
+module _ (l : List ℕ) (low high : ℕ) (rows : List ℕ) (done : fileAnswer (searchTests l low high rows) ≡ Done) where
+  pub search-front : take (length (found l low high)) (searchLeaves l low high rows) ≡ found l low high
+  search-front = ap (take (length (found l low high))) (search-done l low high rows done .1) ∙ over-front (found l low high) rows
+
+  pub search-behind : drop (length (found l low high)) (searchLeaves l low high rows) ≡ drop (length (found l low high)) rows
+  search-behind = ap (drop (length (found l low high))) (search-done l low high rows done .1) ∙ over-rest (found l low high) rows
 
 -- A refused search leaves the room for rows as it was.
 pub search-unchanged : (l : List ℕ) (low high : ℕ) (rows : List ℕ) → (numberOf (fileAnswer (searchTests l low high rows)) ≡ 0 → ⊥)
