@@ -6,8 +6,8 @@ reader reads, since the call comes after edition 2.
 """
 from . import encodings, files, rewrite, shapes, sweep_reads, sweep_writes, writer
 from .ask import ask_rewrite, ask_rewritten
-from .build import Dice, any_block, any_runs, column_file, frame, packed, with_index
-from .files import DIFFERENCES, FRAME, PACKED
+from .build import Dice, any_block, any_runs, column_file, frame, packed, ranged, with_index
+from .files import DIFFERENCES, FRAME, PACKED, TOP
 from .sweep_reads import STEPS, has_runs, mixed_blocks
 
 EDITIONS = (1, 2)
@@ -148,6 +148,26 @@ def rewrite_damaged(dice):
             yield ask_rewrite(dice, f"edition {edition}, N {count}", column_file(blocks, edition, count), 600)
 
 
+def rewrite_bodies(dice):
+    """Run indices out of range in edition 1, and ranges that lie in edition 2: in one block or in two, of which the
+    lowest is named, and beside an output that is long enough, too short, and none."""
+    good, runs, lie = any_block(dice, FRAME, 1), any_runs(dice, 5), any_block(dice, DIFFERENCES, 2)
+    smallest, largest = ranged(lie).entry[-2:]
+    faults = [(1, with_index(runs, place, 5)) for place in (0, 511, 1023)]
+    lies = {"smallest": smallest - 1}, {"largest": largest - 1}, {"smallest": 0, "largest": TOP}
+    faults += [(2, lie.but(**other)) for other in lies]
+    for edition, bad in faults:
+        for name, blocks in (
+            ("block 0", [bad, good]),
+            ("block 2", [good, good, bad]),
+            ("blocks 1 and 2", [good, bad, bad]),
+            ("blocks 0 and 3", [bad, good, good, bad]),
+        ):
+            data = column_file(blocks, edition)
+            for room in (0, 40, 40000):
+                yield ask_rewrite(dice, f"edition {edition}, a bad body in {name}", data, room)
+
+
 def rewrite_runs_in_2(dice):
     """Run blocks of edition 2, alone and behind others. From Item 11 on they are refused."""
     for n in (1, 5, 1024):
@@ -166,6 +186,7 @@ SECTIONS = (
     rewrite_rooms,
     rewrite_faults,
     rewrite_damaged,
+    rewrite_bodies,
     rewrite_runs_in_2,
 )
 
