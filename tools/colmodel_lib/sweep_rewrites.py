@@ -149,12 +149,13 @@ def rewrite_damaged(dice):
 
 
 def rewrite_bodies(dice):
-    """Run indices out of range in edition 1, and ranges that lie in edition 2: in one block or in two, of which the lowest
-    is named, and beside an output that is long enough, too short, and none."""
+    """Run indices out of range in edition 1, and ranges that lie in edition 2: in one block or in two, of which the
+    lowest is named, and beside an output that is long enough, too short, and none."""
     good, runs, lie = any_block(dice, FRAME, 1), any_runs(dice, 5), any_block(dice, DIFFERENCES, 2)
     smallest, largest = ranged(lie).entry[-2:]
     faults = [(1, with_index(runs, place, 5)) for place in (0, 511, 1023)]
-    faults += [(2, lie.but(smallest=smallest - 1)), (2, lie.but(largest=largest - 1)), (2, lie.but(smallest=0, largest=TOP))]
+    lies = {"smallest": smallest - 1}, {"largest": largest - 1}, {"smallest": 0, "largest": TOP}
+    faults += [(2, lie.but(**other)) for other in lies]
     for edition, bad in faults:
         for name, blocks in (
             ("block 0", [bad, good]),
@@ -162,8 +163,9 @@ def rewrite_bodies(dice):
             ("blocks 1 and 2", [good, bad, bad]),
             ("blocks 0 and 3", [bad, good, good, bad]),
         ):
+            data = column_file(blocks, edition)
             for room in (0, 40, 40000):
-                yield ask_rewrite(dice, f"edition {edition}, {name} with a bad body", column_file(blocks, edition), room)
+                yield ask_rewrite(dice, f"edition {edition}, a bad body in {name}", data, room)
 
 
 def rewrite_runs_in_2(dice):
