@@ -42,6 +42,12 @@ or-join a b s t l h =
     let shifted : a * 2 ^ s % 2 ^ t ≡ a % 2 ^ (t - s) * 2 ^ s = simp add-zero at (cut-mod a 0 s t l (pow-pos s)) in
     ap (bitOr b) shifted ∙ or-shifted-r (a % 2 ^ (t - s)) s b h ∙ rw (add-comm b) (sym (cut-mod a b s t l h))
 
+-- A value that fills its word, shifted to its bit, is the same with what it has above the width and without that.
+pub filling : (v w s t : ℕ) → s ≤ t → t ≤ s + w → v % 2 ^ w * 2 ^ s % 2 ^ t ≡ v * 2 ^ s % 2 ^ t
+filling v w s t l h =
+    let shifted : (a : ℕ) → a * 2 ^ s % 2 ^ t ≡ a % 2 ^ (t - s) * 2 ^ s = λ a. simp add-zero at (cut-mod a 0 s t l (pow-pos s)) in
+    shifted (v % 2 ^ w) ∙ ap (λ n. n * 2 ^ s) (mod-mod-le v (t - s) w (omega arith)) ∙ sym (shifted v)
+
 -- ---- where a row begins
 
 module _ (t w r k s : ℕ) (e : r * w ≡ k * t + s) (hs : s < t) where

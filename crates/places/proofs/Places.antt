@@ -9,7 +9,7 @@ use native.Mathlib.Omega.{arith}
 use lib.Arith.{digits-lt, digits-div, digits-mod}
 use lib.ListN.{getD}
 use Rattle.places.specs.Sizes.{t8, t16, t32, t64, Size, lanes}
-use Rattle.places.specs.Places.{order, place, lane, row, source, target}
+use Rattle.places.specs.Places.{order, place, nextStart, lane, row, source, target}
 use Rattle.places.specs.Tab.{tab}
 use Rattle.places.proofs.Every.{Same, Below, same, below}
 use Rattle.places.proofs.Tabs.{getD-tab}
@@ -141,3 +141,8 @@ row-start o i h =
 
 pub row-within : (o i : ℕ) → o < 8 → i < 8 → place (o % 8 * 8 + i % 8) 0 ≡ place (o * 8 + i) 0
 row-within o i ho hi = ap (λ r. place r 0) (omega arith)
+
+-- a walk that goes from row to row finds each row's start from the one before; after the last row the starts begin again
+pub start-next : (r q : ℕ) → r < 64 → q ≡ place (r % 64) 0 → nextStart q (r + 1) ≡ place ((r + 1) % 64) 0
+unfolding order place nextStart
+start-next r q h e = ap (λ q. nextStart q (r + 1)) e ∙ same 64 (λ r. nextStart (place (r % 64) 0) (r + 1)) (λ r. place ((r + 1) % 64) 0) tt r h

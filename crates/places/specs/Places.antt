@@ -2,7 +2,9 @@
 -- Assumes nothing.
 use mathlib.Core.List.{List, [], _∷_}
 use Prim.Native.Nat.{ℕ, _+_, _-_, _*_, _/_, _%_}
+use lib.Dec.{eqb}
 use lib.ListN.{getD}
+use Rattle.places.specs.Pick.{pick}
 use Rattle.places.specs.Sizes.{lanes}
 
 -- This is entry n of the order list, and 0 past its end.
@@ -12,6 +14,11 @@ order n = getD (0 ∷ 4 ∷ 2 ∷ 6 ∷ 1 ∷ 5 ∷ 3 ∷ 7 ∷ []) n 0
 -- Row r of lane l stands at this place.
 unfoldable pub place : (r l : ℕ) → ℕ
 place r l = order (r / 8) * 16 + (r % 8) * 128 + l
+
+-- This is where row r starts, when the row before starts at q: 128 places on, and at every eighth row by the order list. That it is so for each
+-- row is a law.
+unfoldable pub nextStart : (q r : ℕ) → ℕ
+nextStart q r = pick (eqb (r % 8) 0) (place (r / 8 % 8 * 8) 0) (q % 1024 + 128)
 
 -- This is the lane of a place, at element size t.
 unfoldable pub lane : (t p : ℕ) → ℕ

@@ -23,17 +23,17 @@ loadOf t source = pick (leb (lanes t) (length source)) (tab (lanes t) (λ l. get
 unfoldable pub storeOf : (out x : List ℕ) → List ℕ
 storeOf out x = pick (leb (length x) (length out)) (over 0 x out) out
 
--- `shr` gives each value divided by 2^s.
+-- `shr` gives each value divided by 2^s. Here and below the shift or the width is taken modulo t.
 unfoldable pub shrOf : (t : ℕ) (x : List ℕ) (s : ℕ) → List ℕ
-shrOf t x s = tab (lanes t) (λ l. getD x l 0 / 2 ^ s)
+shrOf t x s = tab (lanes t) (λ l. getD x l 0 / 2 ^ (s % t))
 
 -- `or_shl` gives each value of x, with those bits set too that the value of y in the same lane, times 2^s, has below 2^t.
 unfoldable pub orShlOf : (t : ℕ) (x y : List ℕ) (s : ℕ) → List ℕ
-orShlOf t x y s = tab (lanes t) (λ l. bitOr (getD x l 0) (getD y l 0 * 2 ^ s % 2 ^ t))
+orShlOf t x y s = tab (lanes t) (λ l. bitOr (getD x l 0) (getD y l 0 * 2 ^ (s % t) % 2 ^ t))
 
 -- `mask` gives each value modulo 2^w.
 unfoldable pub maskOf : (t : ℕ) (x : List ℕ) (w : ℕ) → List ℕ
-maskOf t x w = tab (lanes t) (λ l. getD x l 0 % 2 ^ w)
+maskOf t x w = tab (lanes t) (λ l. getD x l 0 % 2 ^ (w % t))
 
 -- `wrapping_add` gives the sums modulo 2^t.
 unfoldable pub addOf : (t : ℕ) (x y : List ℕ) → List ℕ
