@@ -2,29 +2,26 @@
 -- Assumes nothing.
 use mathlib.Core.Path.{_≡_, refl, sym, ap, ap₂, _∙_, subst}
 use mathlib.Core.List.{List}
-use Prim.Native.Nat.{ℕ, zero, suc, _+_, _-_, _*_, _/_, _%_, _^_, _≤_, _<_}
+use Prim.Native.Nat.{ℕ, zero, suc, _+_, _-_, _^_, _≤_, _<_}
 use native.Mathlib.Nat.{zero-add, add-zero, add-suc, sub-zero}
 use native.Mathlib.Numerals.{add-one}
 use native.Mathlib.Omega.{arith}
 use lib.ListN.{length, getD}
 use Rattle.places.specs.Places.{place, lane, row}
 use Rattle.places.specs.Sizes.{Size, lanes}
-use Rattle.places.specs.Tab.{tab, over}
-use Rattle.places.proofs.Places.{each, place-lane, lane-place, row-place, lane-lt, place-lt}
+use Rattle.places.specs.Tab.{tab}
+use Rattle.places.proofs.Places.{lane-place, row-place, lane-lt, place-lt}
 use Rattle.places.proofs.Tabs.{getD-tab, tab-ext, tab-getD}
 use Rattle.rows.specs.InnerBlocks.{rowsOver}
-use Rattle.rows.specs.Rows.{loadOf, addOf}
-use Rattle.rows.proofs.Blocks.{start-room, rows-after, rows-agree, Rewritten, rewritten-next}
-use Rattle.rows.proofs.Rows.{load-room, add-tab}
-use Rattle.packing.specs.Packed.{part}
-use Rattle.deltas.specs.Deltas.{summed, undeltaOf, frameOf}
+use Rattle.rows.specs.Rows.{splatOf, loadOf, addOf, subOf}
+use Rattle.rows.proofs.Blocks.{rows-after, rows-agree, Rewritten}
+use Rattle.rows.proofs.Rows.{load-room, add-tab, sub-tab}
+use Rattle.packing.specs.Packed.{valueAt, unpackOf}
+use Rattle.packing.proofs.Turns.{rowFrom, rowOf, row-from}
+use Rattle.deltas.specs.Deltas.{before, summed, undeltaOf, frameOf}
 use Rattle.places.specs.Numbers.{plus, minus}
 use Rattle.deltas.specs.InnerWalks.{sumTo, sumRow, sumAt}
-
--- the row of values that stands from a row's start on
-pub values-at : (t r start : ℕ) (v : List ℕ) → start ≡ place r 0
-    → tab (lanes t) (λ l. getD v (start + l) 0) ≡ tab (lanes t) (λ l. getD v (place r l) 0)
-values-at t r start v e = tab-ext (lanes t) _ _ 0 (λ l _. ap (λ p. getD v p 0) (ap (λ n. n + l) e ∙ sym (place-lane r l)))
+use Rattle.deltas.proofs.Lanes.{minus-lt, delta-row-first, delta-row-next}
 
 -- a row's values are those of the block where the walk has not come to it yet
 pub not-yet : {t : ℕ} (s : Size t) {a n : ℕ} {f : ℕ → ℕ} {x y : List ℕ} → Rewritten t a n f x y → (r l : ℕ) → a + n ≤ r → r < t → l < lanes t
@@ -58,25 +55,6 @@ pub sum-summed : (t : ℕ) (f : ℕ → ℕ) (b r : ℕ) → summed t f b r ≡ 
 unfolding summed sumTo
 sum-summed t f b zero = refl
 sum-summed t f b (suc r) = ap (plus t (f (suc r))) (sum-summed t f b r ∙ ap (sumTo t f b) (add-one r)) ∙ sym (ap (sumTo t f b) (add-one (suc r)))
-
--- the walks by row find a row's start with `row_start`
-
-pub row-found : {t : ℕ} → Size t → (r q : ℕ) → r < t → q ≡ place (r / 8 % 8 * 8 + r % 8 % 8) 0 → q ≡ place r 0
-row-found {t} s r q hr e =
-    let small : t ≤ 64 = each (λ t. t ≤ 64) (omega arith) (omega arith) (omega arith) (omega arith) s in
-    e ∙ ap (λ n. place n 0) (omega arith)
-
-pub row-room : {t : ℕ} → Size t → (r q : ℕ) → r < t → q ≡ place (r / 8 % 8 * 8 + r % 8 % 8) 0 → q + lanes t ≤ 1024
-row-room s r q hr e = omega (arith, row-found s r q hr e, start-room s r hr)
-
-pub next-row : {t : ℕ} (s : Size t) (r q : ℕ) {f : ℕ → ℕ} {x y z v : List ℕ} → r < t → q ≡ place r 0 → Rewritten t 0 r f x y
-    → v ≡ tab (lanes t) (λ l. f (place r l)) → z ≡ over q v y → Rewritten t 0 (r + 1) f x z
-next-row {t} s r q {f} {v = v} hr eq w ev ez =
-    let e : 0 + r ≡ r = zero-add r in
-    record {
-      long = w .long;
-      is = ez ∙ rewritten-next s w (rw e hr) q v (eq ∙ ap (λ n. place n 0) (sym e)) (ev ∙ ap (λ n. tab (lanes t) (λ l. f (place n l))) (sym e)) .is;
-    }
 
 -- one turn of a walk that sums: the row of sums, and the values that stand there then
 
@@ -142,13 +120,48 @@ module _ {t : ℕ} (s : Size t) {v : List ℕ} (b : List ℕ) {y prev : List ℕ
       from-here (lane t p) (row t p + 1 - a) (lane-lt s p hp) (omega arith)
       ∙ ap (sumTo t (λ k. getD v (place (0 + k) (lane t p)) 0) (getD b (lane t p) 0)) e)
 
--- the row of differences from the reference, cut to the width, is what each lane gives to its number
-pub frame-parts : {t : ℕ} (s : Size t) (w r start reference : ℕ) (values : List ℕ) → r < t → start ≡ place r 0
-    → tab (lanes t) (λ l. minus t (getD values (start + l) 0) reference % 2 ^ w) ≡ tab (lanes t) (λ l. part w (frameOf t values reference) l r)
-unfolding part frameOf
-frame-parts {t} s w r start reference values hr e =
-    tab-ext (lanes t) _ _ 0
-    (λ l hl.
-    ap (λ n. n % 2 ^ w)
-    (ap (λ p. minus t (getD values p 0) reference) (ap (λ n. n + l) e ∙ sym (place-lane r l))
-    ∙ sym (getD-tab 1024 (λ p. minus t (getD values p 0) reference) (place r l) 0 (place-lt s r l hr hl))))
+-- ---- differences
+
+-- Before row r stands the base, and at later rows the row before.
+abbrev pub rowBefore : ℕ → List ℕ → List ℕ → ℕ → List ℕ
+rowBefore t v b zero = b
+rowBefore t v b (suc r) = rowOf t v r
+
+pub before-later : (t : ℕ) (v b : List ℕ) (r : ℕ) → rowBefore t v b (r + 1) ≡ rowOf t v r
+before-later t v b r = rw add-one
+
+-- A walk that holds what stands before row r writes the differences that delta stores there.
+pub differ-row : {t : ℕ} (s : Size t) (v b : List ℕ) (r : ℕ) → r < t → length b ≡ lanes t
+    → subOf t (rowOf t v r) (rowBefore t v b r) ≡ tab (lanes t) (λ l. minus t (getD v (place r l) 0) (before t v b (place r l)))
+differ-row {t} s v b zero h e = ap (subOf t (rowOf t v 0)) (sym (tab-getD b 0 (lanes t) e)) ∙ sub-tab t _ _ ∙ delta-row-first s v b
+differ-row {t} s v b (suc r) h e =
+    let next : r + 1 ≡ suc r = add-one r in
+    sub-tab t _ _ ∙ rw next at (delta-row-next s v b r (rw next h))
+
+-- ---- frames
+
+-- the row of differences from the reference is a row of the frame
+pub frame-row : {t : ℕ} (s : Size t) (r start reference : ℕ) (values : List ℕ) → r < t → start ≡ place r 0
+    → subOf t (rowFrom t values start) (splatOf t reference) ≡ rowOf t (frameOf t values reference) r
+unfolding splatOf frameOf
+frame-row {t} s r start reference values hr e =
+    ap (λ x. subOf t x (splatOf t reference)) (row-from t r start values e)
+    ∙ sub-tab t _ _
+    ∙ tab-ext (lanes t) _ _ 0
+    (λ l hl. sym (getD-tab 1024 (λ p. minus t (getD values p 0) reference) (place r l) 0 (place-lt s r l hr hl)))
+
+-- its values are elements
+pub frame-small : {t : ℕ} (s : Size t) (values : List ℕ) (reference p : ℕ) → p < 1024 → getD (frameOf t values reference) p 0 < 2 ^ t
+unfolding frameOf
+frame-small {t} s values reference p h = rw (getD-tab 1024 (λ p. minus t (getD values p 0) reference) p 0 h) (minus-lt t (getD values p 0) reference)
+
+-- a row of values, each raised by the reference
+pub raised-row : (t : ℕ) (f : ℕ → ℕ) (reference : ℕ) → addOf t (tab (lanes t) f) (splatOf t reference) ≡ tab (lanes t) (λ l. plus t (f l) reference)
+unfolding splatOf
+raised-row t f reference = add-tab t _ _
+
+-- a row of values that are read is a row of the unpacked block
+pub unpacked-row : {t : ℕ} (s : Size t) (w r : ℕ) (packed : List ℕ) → r < t
+    → tab (lanes t) (λ l. valueAt t w packed (place r l)) ≡ rowOf t (unpackOf t w packed) r
+unfolding unpackOf
+unpacked-row {t} s w r packed hr = tab-ext (lanes t) _ _ 0 (λ l hl. sym (getD-tab 1024 (valueAt t w packed) (place r l) 0 (place-lt s r l hr hl)))

@@ -2,6 +2,7 @@
 // Differences and frames of blocks of u16 values.
 use packing::t16::unpack;
 use places::Answer;
+use places::next_start;
 use places::row_start;
 use rows::t16::load;
 use rows::t16::mask;
@@ -12,24 +13,21 @@ use rows::t16::store;
 use rows::t16::wrapping_add;
 use rows::t16::wrapping_sub;
 ghost use mathlib.Core.Path.{_≡_};
-ghost use Prim.Native.Nat.{ℕ, _+_, _*_, _/_, _%_, _^_, _≤_, _<_};
+ghost use Prim.Native.Nat.{_+_, _*_, _/_, _≤_, _<_};
 ghost use lib.ListN.{length, getD};
 ghost use Rattle.places.specs.Sizes.{t16, lanes};
 ghost use Rattle.places.specs.Tab.{tab, over};
 ghost use Rattle.places.specs.Takes.{answerFor};
 ghost use Rattle.packing.specs.Calls.{packTakes};
 ghost use Rattle.rows.specs.InnerBlocks.{rowsOver};
-ghost use Rattle.packing.specs.InnerWalks.{Filled, heldRow};
 ghost use Rattle.deltas.specs.Calls.{deltaTakes, deltaLeaves, undeltaLeaves, undeltaPackTakes, undeltaPackLeaves, forPackLeaves, unforPackLeaves};
-ghost use Rattle.deltas.specs.Deltas.{deltaOf, undeltaOf, frameOf, forPackOf};
+ghost use Rattle.deltas.specs.Deltas.{deltaOf, undeltaOf, undeltaPackOf, forPackOf, unforPackOf};
 ghost use Rattle.places.specs.Numbers.{minus, plus};
 ghost use Rattle.deltas.specs.InnerWalks.{sumRow, sumAt};
 
 const T: usize = 16;
 
 const LANES: usize = 64;
-
-const BITS: u8 = 16;
 
 // Stores at each place its value minus the value of the row before in its lane, at row 0 minus the lane's base.
 pub fn delta(input: &[u16], base: &[u16], output: &mut [u16]) -> Answer
@@ -85,8 +83,13 @@ pub fn undelta_pack(width: usize, packed: &[u16], base: &[u16], values: &mut [u1
     if base.len() != LANES {
         return Answer::Base;
     }
-    unpack(width, packed, values);
-    sum_up(base, values);
+    match width {
+        1..=15 => unpack_sums(width, packed, base, values),
+        _ => {
+            unpack(width, packed, values);
+            sum_up(base, values);
+        }
+    }
     Answer::Done
 }
 
@@ -104,8 +107,10 @@ pub fn for_pack(width: usize, values: &[u16], reference: u16, packed: &mut [u16]
     if packed.len() != LANES * width {
         return Answer::Packed;
     }
-    if 0 < width {
-        pack_frame(width as u8, values, reference, packed);
+    match width {
+        0 => {}
+        1..=15 => frame_split(width, values, reference, packed),
+        _ => frame_copy(values, reference, packed),
     }
     Answer::Done
 }
@@ -124,30 +129,35 @@ pub fn unfor_pack(width: usize, packed: &[u16], reference: u16, values: &mut [u1
     if packed.len() != LANES * width {
         return Answer::Packed;
     }
-    unpack(width, packed, values);
-    raise(reference, values);
+    match width {
+        1..=15 => unpack_raised(width, packed, reference, values),
+        _ => {
+            unpack(width, packed, values);
+            raise(reference, values);
+        }
+    }
     Answer::Done
 }
 
-// The row before is loaded again: that is cheaper than to keep it.
+// The row is loaded again for the next one: that is cheaper than to keep it.
 fn differences(input: &[u16], base: &[u16], output: &mut [u16])
     requires { ⌜ length (now input) ≡ 1024 ⌝ }
     requires { ⌜ length (now base) ≡ lanes t16 ⌝ }
     requires { ⌜ length (now output) ≡ 1024 ⌝ }
     ensures { λ _. ⌜ now (output .exit) ≡ deltaOf t16 (now (input .entry)) (now (base .entry)) ⌝ }
 {
-    put_at(output, 0, wrapping_sub(row_at(input, 0), load(base)));
-    let mut prev = 0;
-    let mut r = 1;
-    while r < T {
-        let start = row_start(r / 8, r % 8);
-        put_at(
-            output,
-            start,
-            wrapping_sub(row_at(input, start), row_at(input, prev)),
-        );
-        prev = start;
-        r += 1;
+    let mut prev = load(base);
+    let mut o = 0;
+    while o < T / 8 {
+        let mut i = 0;
+        while i < 8 {
+            let start = row_start(o, i);
+            put_at(output, start, wrapping_sub(row_at(input, start), prev));
+            let row = row_at(input, start);
+            prev = row;
+            i += 1;
+        }
+        o += 1;
     }
 }
 
@@ -158,13 +168,17 @@ fn sums(input: &[u16], base: &[u16], output: &mut [u16])
     ensures { λ _. ⌜ now (output .exit) ≡ undeltaOf t16 (now (input .entry)) (now (base .entry)) ⌝ }
 {
     let mut prev = load(base);
-    let mut r = 0;
-    while r < T {
-        let start = row_start(r / 8, r % 8);
-        let next = wrapping_add(row_at(input, start), prev);
-        put_at(output, start, next);
-        prev = next;
-        r += 1;
+    let mut o = 0;
+    while o < T / 8 {
+        let mut i = 0;
+        while i < 8 {
+            let start = row_start(o, i);
+            let next = wrapping_add(row_at(input, start), prev);
+            put_at(output, start, next);
+            prev = next;
+            i += 1;
+        }
+        o += 1;
     }
 }
 
@@ -215,63 +229,129 @@ fn raise(reference: u16, values: &mut [u16])
     }
 }
 
-// The walk of pack over the differences. Width T needs no rule of its own here: the row operations are total.
-fn pack_frame(width: u8, values: &[u16], reference: u16, packed: &mut [u16])
-    requires { ⌜ (0 < width) × (width ≤ t16) ⌝ }
-    requires { ⌜ length (now values) ≡ 1024 ⌝ }
+// The walk of unpack at the middle widths, with the reference added to each row before it is stored.
+fn unpack_raised(width: usize, packed: &[u16], reference: u16, values: &mut [u16])
+    requires { ⌜ (0 < width) × (width < t16) ⌝ }
     requires { ⌜ length (now packed) ≡ lanes t16 * width ⌝ }
-    ensures { λ _. ⌜ now (packed .exit) ≡ forPackOf t16 width (now (values .entry)) reference ⌝ }
+    requires { ⌜ length (now values) ≡ 1024 ⌝ }
+    ensures { λ _. ⌜ now (values .exit) ≡ unforPackOf t16 width (now (packed .entry)) reference ⌝ }
 {
-    let mut held = splat(0);
+    let lift = splat(reference);
+    let mut s = 0;
+    let mut word = 0;
     let mut o = 0;
     while o < T / 8 {
-        let next = frame_eight(width, values, reference, packed, o, held);
-        held = next;
+        let mut i = 0;
+        while i < 8 {
+            let mut row = shr(row_at(packed, word), s);
+            s += width;
+            if T <= s {
+                s -= T;
+                word += LANES;
+                if 0 < s {
+                    let both = or_shl(row, row_at(packed, word), width - s);
+                    row = both;
+                }
+            }
+            put_at(
+                values,
+                row_start(o, i),
+                wrapping_add(mask(row, width), lift),
+            );
+            i += 1;
+        }
         o += 1;
     }
 }
 
-// Rows o · 8 to o · 8 + 7 of the differences join the words that `before` holds; what is not stored yet is handed on.
-fn frame_eight(
-    width: u8,
-    values: &[u16],
-    reference: u16,
-    packed: &mut [u16],
-    o: usize,
-    before: [u16; LANES],
-) -> [u16; LANES]
-    requires { ⌜ (0 < width) × (width ≤ t16) ⌝ }
+// The same with each row added to the one before it.
+fn unpack_sums(width: usize, packed: &[u16], base: &[u16], values: &mut [u16])
+    requires { ⌜ (0 < width) × (width < t16) ⌝ }
+    requires { ⌜ length (now packed) ≡ lanes t16 * width ⌝ }
+    requires { ⌜ length (now base) ≡ lanes t16 ⌝ }
     requires { ⌜ length (now values) ≡ 1024 ⌝ }
-    requires { ⌜ o < t16 / 8 ⌝ }
-    requires { ⌜ before ≡ heldRow t16 width (frameOf t16 (now values) reference) (o * 8) ⌝ }
-    requires { ⌜ Filled t16 width (frameOf t16 (now values) reference) (o * 8 * width / t16) (now packed) ⌝ }
-    ensures { λ r. ⌜ r ≡ heldRow t16 width (frameOf t16 (now (values .entry)) reference) ((o + 1) * 8) ⌝ }
-    ensures { λ _. ⌜ Filled t16 width (frameOf t16 (now (values .entry)) reference) ((o + 1) * 8 * width / t16) (now (packed .exit)) ⌝ }
+    ensures { λ _. ⌜ now (values .exit) ≡ undeltaPackOf t16 width (now (packed .entry)) (now (base .entry)) ⌝ }
 {
-    let mut held = before;
-    let mut i = 0;
-    while i < 8 {
-        let start = row_start(o, i);
-        let bit = (o * 8 + i) * (width as usize);
-        let s = (bit % T) as u8;
-        let full = or_shl(held, frame_row(width, values, reference, start), s);
-        held = full;
-        if BITS <= s + width {
-            put_at(packed, LANES * (bit / T), full);
-            let rest = shr(frame_row(width, values, reference, start), BITS - s);
-            held = rest;
+    let mut prev = load(base);
+    let mut s = 0;
+    let mut word = 0;
+    let mut o = 0;
+    while o < T / 8 {
+        let mut i = 0;
+        while i < 8 {
+            let mut row = shr(row_at(packed, word), s);
+            s += width;
+            if T <= s {
+                s -= T;
+                word += LANES;
+                if 0 < s {
+                    let both = or_shl(row, row_at(packed, word), width - s);
+                    row = both;
+                }
+            }
+            let next = wrapping_add(mask(row, width), prev);
+            put_at(values, row_start(o, i), next);
+            prev = next;
+            i += 1;
         }
-        i += 1;
+        o += 1;
     }
-    held
 }
 
-// The row of differences from place a on, cut to the width.
-fn frame_row(width: u8, values: &[u16], reference: u16, a: usize) -> [u16; LANES]
-    requires { ⌜ a + lanes t16 ≤ length (now values) ⌝ }
-    ensures { λ x. ⌜ x ≡ tab (lanes t16) (λ l. minus t16 (getD (now (values .entry)) (a + l) 0) reference % 2 ^ width) ⌝ }
+// The walk of pack over the differences, at the middle widths.
+fn frame_split(width: usize, values: &[u16], reference: u16, packed: &mut [u16])
+    requires { ⌜ (0 < width) × (width < t16) ⌝ }
+    requires { ⌜ length (now values) ≡ 1024 ⌝ }
+    requires { ⌜ length (now packed) ≡ lanes t16 * width ⌝ }
+    ensures { λ _. ⌜ now (packed .exit) ≡ forPackOf t16 width (now (values .entry)) reference ⌝ }
 {
-    mask(wrapping_sub(row_at(values, a), splat(reference)), width)
+    let low = splat(reference);
+    let most = T - width;
+    let mut held = splat(0);
+    let mut s = 0;
+    let mut word = 0;
+    let mut start = 0;
+    let mut r = 0;
+    while r < T {
+        while s < most {
+            let more = or_shl(
+                held,
+                mask(wrapping_sub(row_at(values, start), low), width),
+                s,
+            );
+            held = more;
+            s += width;
+            r += 1;
+            start = next_start(start, r);
+        }
+        put_at(
+            packed,
+            word,
+            or_shl(held, wrapping_sub(row_at(values, start), low), s),
+        );
+        let rest = shr(mask(wrapping_sub(row_at(values, start), low), width), T - s);
+        held = rest;
+        s -= most;
+        word += LANES;
+        r += 1;
+        start = next_start(start, r);
+    }
+}
+
+// Width T copies the differences.
+fn frame_copy(values: &[u16], reference: u16, packed: &mut [u16])
+    requires { ⌜ length (now values) ≡ 1024 ⌝ }
+    requires { ⌜ length (now packed) ≡ 1024 ⌝ }
+    ensures { λ _. ⌜ now (packed .exit) ≡ forPackOf t16 t16 (now (values .entry)) reference ⌝ }
+{
+    let low = splat(reference);
+    let mut start = 0;
+    let mut r = 0;
+    while r < T {
+        put_at(packed, LANES * r, wrapping_sub(row_at(values, start), low));
+        r += 1;
+        start = next_start(start, r);
+    }
 }
 
 // The LANES values from place a on.

@@ -252,7 +252,11 @@ fn unpack_raised(width: usize, packed: &[u64], reference: u64, values: &mut [u64
                     row = both;
                 }
             }
-            put_at(values, row_start(o, i), wrapping_add(mask(row, width), lift));
+            put_at(
+                values,
+                row_start(o, i),
+                wrapping_add(mask(row, width), lift),
+            );
             i += 1;
         }
         o += 1;
@@ -300,6 +304,7 @@ fn frame_split(width: usize, values: &[u64], reference: u64, packed: &mut [u64])
     requires { ⌜ length (now packed) ≡ lanes t64 * width ⌝ }
     ensures { λ _. ⌜ now (packed .exit) ≡ forPackOf t64 width (now (values .entry)) reference ⌝ }
 {
+    let low = splat(reference);
     let most = T - width;
     let mut held = splat(0);
     let mut s = 0;
@@ -308,14 +313,22 @@ fn frame_split(width: usize, values: &[u64], reference: u64, packed: &mut [u64])
     let mut r = 0;
     while r < T {
         while s < most {
-            let more = or_shl(held, mask(frame_row(values, reference, start), width), s);
+            let more = or_shl(
+                held,
+                mask(wrapping_sub(row_at(values, start), low), width),
+                s,
+            );
             held = more;
             s += width;
             r += 1;
             start = next_start(start, r);
         }
-        put_at(packed, word, or_shl(held, frame_row(values, reference, start), s));
-        let rest = shr(mask(frame_row(values, reference, start), width), T - s);
+        put_at(
+            packed,
+            word,
+            or_shl(held, wrapping_sub(row_at(values, start), low), s),
+        );
+        let rest = shr(mask(wrapping_sub(row_at(values, start), low), width), T - s);
         held = rest;
         s -= most;
         word += LANES;
@@ -330,21 +343,14 @@ fn frame_copy(values: &[u64], reference: u64, packed: &mut [u64])
     requires { ⌜ length (now packed) ≡ 1024 ⌝ }
     ensures { λ _. ⌜ now (packed .exit) ≡ forPackOf t64 t64 (now (values .entry)) reference ⌝ }
 {
+    let low = splat(reference);
     let mut start = 0;
     let mut r = 0;
     while r < T {
-        put_at(packed, LANES * r, frame_row(values, reference, start));
+        put_at(packed, LANES * r, wrapping_sub(row_at(values, start), low));
         r += 1;
         start = next_start(start, r);
     }
-}
-
-// The row of differences from place a on.
-fn frame_row(values: &[u64], reference: u64, a: usize) -> [u64; LANES]
-    requires { ⌜ a + lanes t64 ≤ length (now values) ⌝ }
-    ensures { λ x. ⌜ x ≡ tab (lanes t64) (λ l. minus t64 (getD (now (values .entry)) (a + l) 0) reference) ⌝ }
-{
-    wrapping_sub(row_at(values, a), splat(reference))
 }
 
 // The LANES values from place a on.

@@ -13,7 +13,7 @@ use lib.Seq.{take-all, take-at}
 use Rattle.places.specs.Places.{order, place, nextStart}
 use Rattle.places.specs.Sizes.{Size, lanes}
 use Rattle.places.specs.Tab.{tab, tabFrom, over}
-use Rattle.places.proofs.Places.{each, place-lane, start-next}
+use Rattle.places.proofs.Places.{each, place-lane, place-lt, start-next}
 use Rattle.places.proofs.Tabs.{length-tab, tab-ext, tab-append, length-over}
 use Rattle.rows.specs.Rows.{splatOf, shrOf, orShlOf, maskOf}
 use Rattle.rows.proofs.Rows.{shr-tab, mask-tab, or-shl-tab}
@@ -368,13 +368,12 @@ pub packing-all : {t w : ℕ} (size : Size t) {values packed held : List ℕ} {r
 packing-all {t} {w} size {r = r} e p = filled-all (r * w / t) (ap (λ n. n * w / t) e ∙ word-all t w (size-pos size)) (p .filled)
 
 -- at width t the words of row r are the row's values
-pub copied-words : (t r start : ℕ) (values : List ℕ) → ((i : ℕ) → getD values i 0 < 2 ^ t) → r < t → start ≡ place r 0
-    → tab (lanes t) (λ l. getD values (start + l) 0) ≡ tab (lanes t) (λ l. wordAt t t values (lanes t * r + l))
+pub copied-words : {t : ℕ} (size : Size t) (r : ℕ) (values : List ℕ) → ((p : ℕ) → p < 1024 → getD values p 0 < 2 ^ t) → r < t
+    → rowOf t values r ≡ tab (lanes t) (λ l. wordAt t t values (lanes t * r + l))
 unfolding valuesNumber part
-copied-words t r start values small hr e =
+copied-words {t} size r values small hr =
     tab-ext (lanes t) _ _ 0
     (λ l hl.
-    ap (λ p. getD values p 0) (ap (λ n. n + l) e ∙ sym (place-lane r l))
-    ∙ sym (word-lane t t values r l hl
+    sym (word-lane t t values r l hl
     ∙ digit-number t (part t values l) t r (λ i _. part-lt t t values l i) hr
-    ∙ mod-eq-of-lt (small (place r l))))
+    ∙ mod-eq-of-lt (small (place r l) (place-lt size r l hr hl))))

@@ -1,7 +1,7 @@
 -- Written by tools/sizes from the text of size 64: edit that one, and run tools/sizes.
--- `deltas::t16::for_pack` meets its contract: each refusal by its test, and a packed block of width 0 has no words to write.
+-- `deltas::t16::for_pack` meets its contract: each refusal by its test; a packed block of width 0 has no words to write.
 -- Assumes nothing.
-use mathlib.Core.Path.{_≡_, refl}
+use mathlib.Core.Path.{_≡_, refl, sym, ap, _∙_}
 use native.Mathlib.Omega.{arith}
 use denote.Ref.{now}
 use borrow.Author.Needs.{needs}
@@ -29,30 +29,55 @@ returns-3 : tie.Need-returns-3
 unfolding forPackLeaves
 returns-3 c = rw (bad-packed t16 _ _ _ (c .before .before .if1 .left) (c .before .if2 .left) (c .if3 .taken)) (refl, refl)
 
-cast-pack-frame : tie.Need-cast-pack-frame
-cast-pack-frame c = search needs
+frame-split-requires : tie.Need-frame-split-requires
+frame-split-requires c κs = search needs
 
-pack-frame-requires : tie.Need-pack-frame-requires
-pack-frame-requires c κs = search needs
+frame-copy-requires : tie.Need-frame-copy-requires
+frame-copy-requires c κs = search needs
+
+returns-4 : tie.Need-returns-4
+unfolding forPackLeaves forPackOf
+returns-4 c =
+    let start = c .before .before .before .before .before .before in
+    let values = now (start .args .values) in
+    let zero-width : start .args .width ≡ 0 = c .match .keys1 in
+    done _ _ _ _ (good-block t16 _ values (now (start .args .packed)) (omega arith) (omega arith) (omega arith))
+    (rw zero-width (width-zero-only t16 (frameOf t16 values (start .args .reference)) _ (omega arith)))
 
 same-length : tie.Need-same-length
 same-length c = search needs
 
-returns-4 : tie.Need-returns-4
-unfolding forPackLeaves
-returns-4 c =
-    let start = c .before .before .before .before .before .before .before .before .before .before in
-    done _ _ _ _ (good-block t16 _ (now (start .args .values)) (now (start .args .packed)) (omega arith) (omega arith) (omega arith))
-    (c .before .before .pack-frame .ensures)
-
 returns-5 : tie.Need-returns-5
-unfolding forPackLeaves forPackOf
+unfolding forPackLeaves
 returns-5 c =
-    let start = c .before .before .before .before .before .before in
+    let start = c .before .before .before .before .before .before .before .before .before .before .before in
+    done _ _ _ _ (good-block t16 _ (now (start .args .values)) (now (start .args .packed)) (omega arith) (omega arith) (omega arith))
+    (c .before .before .frame-split .ensures)
+
+same-length-2 : tie.Need-same-length-2
+same-length-2 c = search needs
+
+returns-6 : tie.Need-returns-6
+unfolding forPackLeaves
+returns-6 c =
+    let start = c .before .before .before .before .before .before .before .before .before .before .before in
     let values = now (start .args .values) in
-    let zero-width : start .args .width ≡ 0 = omega arith in
+    let full : start .args .width ≡ t16 = omega arith in
     done _ _ _ _ (good-block t16 _ values (now (start .args .packed)) (omega arith) (omega arith) (omega arith))
-    (rw zero-width (width-zero-only t16 (frameOf t16 values (start .args .reference)) _ (omega arith)))
+    (c .before .before .frame-copy .ensures ∙ ap (λ w. forPackOf t16 w values (start .args .reference)) (sym full))
 
 pub for-pack-spec : {M : Type 1} → statement M
-for-pack-spec = tie.close (tie.spec returns returns-2 mul-if3 returns-3 cast-pack-frame pack-frame-requires same-length returns-4 returns-5)
+for-pack-spec =
+    tie.close
+    (tie.spec
+    returns
+    returns-2
+    mul-if3
+    returns-3
+    frame-split-requires
+    frame-copy-requires
+    returns-4
+    same-length
+    returns-5
+    same-length-2
+    returns-6)

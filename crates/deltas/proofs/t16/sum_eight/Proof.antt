@@ -11,8 +11,9 @@ use Rattle.places.specs.Sizes.{t16, lanes}
 use Rattle.places.proofs.Places.{size16}
 use Rattle.places.proofs.Tabs.{tab-ext}
 use Rattle.rows.proofs.Blocks.{Rewritten, rewritten-none, rewritten-length, rewritten-put, start-at, start-in}
+use Rattle.packing.proofs.Turns.{row-from}
 use Rattle.deltas.specs.InnerWalks.{sumRow, sumAt}
-use Rattle.deltas.proofs.Walks.{values-at, not-yet, sum-base, sum-turn}
+use Rattle.deltas.proofs.Walks.{not-yet, sum-base, sum-turn}
 use Rattle.deltas.proofs.t16.sum_eight.Statement.{statement}
 use Rattle.deltas.proofs.t16.sum_eight.Tie as tie
 
@@ -65,7 +66,7 @@ loop-again c =
     let found = start-at size16 _ _ _ (in-loop .loop-test .taken) hr (at-start .row-start .ensures) in
     let row =
     at-add .before .row-at .ensures
-    ∙ values-at t16 _ _ (at-loop .loop .values) found
+    ∙ row-from t16 _ _ (at-loop .loop .values) found
     ∙ tab-ext (lanes t16) _ _ 0 (λ l hl. not-yet size16 (inv .2) _ l (omega arith) hr hl) in
     let turn = sum-turn size16 (now (start .args .values)) _ (start .args .o * 8) (at-loop .loop .i) hr row (inv .1) (at-add .wrapping-add .ensures) in (
       omega arith,

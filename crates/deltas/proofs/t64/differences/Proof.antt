@@ -1,140 +1,144 @@
--- `deltas::t64::differences` meets its contract. The loop's invariant: the first r rows hold their differences, and prev is where the row before
--- starts.
+-- `deltas::t64::differences` meets its contract. The loops' invariants: the first rows hold their differences, and prev is the row before the next
+-- one.
 -- Assumes nothing.
-use mathlib.Core.Path.{_≡_, refl, sym, ap, ap₂, _∙_}
-use mathlib.Core.List.{List}
-use Prim.Native.Nat.{ℕ, _+_, _-_, _≤_, _<_}
-use native.Mathlib.Nat.{zero-add}
+use mathlib.Core.Path.{_≡_, sym, ap, ap₂, _∙_}
+use Prim.Native.Nat.{_+_, _-_, _*_, _/_, _≤_, _<_}
+use native.Mathlib.Nat.{add-zero, add-assoc}
 use native.Mathlib.Omega.{arith}
 use denote.Ref.{now}
 use lib.ListN.{length, getD}
 use borrow.Author.Needs.{needs}
-use Rattle.places.specs.Places.{order, place}
 use Rattle.places.specs.Sizes.{t64, lanes}
 use Rattle.places.proofs.Places.{size64}
-use Rattle.rows.specs.Rows.{subOf}
-use Rattle.rows.proofs.Blocks.{start-room, Rewritten, rewritten-none, rewritten-length, rewritten-all}
-use Rattle.rows.proofs.Rows.{load-room, sub-tab}
-use Rattle.deltas.specs.Deltas.{before, deltaOf}
+use Rattle.rows.proofs.Blocks.{Rewritten, rewritten-none, rewritten-length, rewritten-put, rewritten-eight, rewritten-all, start-at, start-in}
 use Rattle.places.specs.Numbers.{minus}
-use Rattle.deltas.proofs.Lanes.{delta-row-first, delta-row-next}
-use Rattle.deltas.proofs.Walks.{values-at, row-found, row-room, next-row}
+use Rattle.rows.specs.Rows.{subOf}
+use Rattle.packing.proofs.Turns.{row-from}
+use Rattle.deltas.specs.Deltas.{before, deltaOf}
+use Rattle.deltas.proofs.Walks.{load-base, rowBefore, before-later, differ-row}
 use Rattle.deltas.proofs.t64.differences.Statement.{statement}
 use Rattle.deltas.proofs.t64.differences.Tie as tie
 
+abbrev Inv-loop2 : tie.InvT-loop2
+Inv-loop2 input base output₀ prev₀ o i₀ output prev i =
+    (i ≤ 8) × (prev ≡ rowBefore t64 input base (o * 8 + i))
+    × Rewritten t64 (o * 8) i (λ p. minus t64 (getD input p 0) (before t64 input base p)) output₀ output
+
+abbrev μ-loop2 : tie.MeasureT-loop2
+μ-loop2 input base output₀ prev₀ o i₀ output prev i = 8 - i
+
 abbrev Inv-loop : tie.InvT-loop
-Inv-loop input base output₀ prev₀ r₀ output prev r =
-    (1 ≤ r)
-    × (r ≤ t64)
-    × (prev ≡ place (r - 1) 0)
-    × ((x : List ℕ) × Rewritten t64 0 r (λ p. minus t64 (getD input p 0) (before t64 input base p)) x output)
+Inv-loop input base output₀ prev₀ o₀ output prev o =
+    (o ≤ t64 / 8) × (prev ≡ rowBefore t64 input base (o * 8))
+    × Rewritten t64 0 (o * 8) (λ p. minus t64 (getD input p 0) (before t64 input base p)) output₀ output
 
 abbrev μ-loop : tie.MeasureT-loop
-μ-loop input base output₀ prev₀ r₀ output prev r = t64 - r
+μ-loop input base output₀ prev₀ o₀ output prev o = t64 / 8 - o
 
-row-at-requires : tie.Need-row-at-requires Inv-loop μ-loop
-row-at-requires c κs = search needs
-
-load-requires : tie.Need-load-requires Inv-loop μ-loop
+load-requires : tie.Need-load-requires Inv-loop2 μ-loop2 Inv-loop μ-loop
 load-requires c κs = search needs
 
-wrapping-sub-requires : tie.Need-wrapping-sub-requires Inv-loop μ-loop
-wrapping-sub-requires c κs = search needs
-
-put-at-requires : tie.Need-put-at-requires Inv-loop μ-loop
-put-at-requires c κs = search needs
-
-loop-holds : tie.Need-loop-holds Inv-loop μ-loop
-unfolding order place
+loop-holds : tie.Need-loop-holds Inv-loop2 μ-loop2 Inv-loop μ-loop
 loop-holds c =
-    let at-sub = c .before .before .before in
-    let start = at-sub .before .before .before .before .before .before .before in
-    let input = now (start .args .input) in
-    let first =
-    at-sub .wrapping-sub .ensures
-    ∙ ap₂ (subOf t64)
-    (at-sub .before .before .row-at .ensures ∙ values-at t64 0 0 input refl)
-    (at-sub .before .load .ensures ∙ sym (load-room t64 (now (start .args .base)) (omega arith)))
-    ∙ sub-tab t64 _ _
-    ∙ delta-row-first size64 input (now (start .args .base)) in
-    (omega arith, omega arith, refl, (_, next-row size64 0 0 (omega arith) refl (rewritten-none (start .pre .1 .1)) first (c .before .before .put-at .ensures)))
+    let pre = c .before .before .before .before .pre in
+    (search needs, c .load .ensures ∙ load-base t64 _ (pre .1 .0), rewritten-none (pre .1 .1))
 
-row-start-requires : tie.Need-row-start-requires Inv-loop μ-loop
+loop2-holds : tie.Need-loop2-holds Inv-loop2 μ-loop2 Inv-loop μ-loop
+loop2-holds c = (search needs, rw add-zero (c .before .loop .inv .1), rewritten-none (rewritten-length (c .before .loop .inv .2)))
+
+row-start-requires : tie.Need-row-start-requires Inv-loop2 μ-loop2 Inv-loop μ-loop
 row-start-requires c κs = search needs
 
-row-at-requires-2 : tie.Need-row-at-requires-2 Inv-loop μ-loop
-row-at-requires-2 c κs = omega (arith, row-room size64 _ _ (c .before .before .loop-test .taken) (c .before .row-start .ensures))
+-- a turn of the inner loop: its row is one of the block's
+row-lt : (c : tie.In-loop2 Inv-loop2 μ-loop2 Inv-loop μ-loop) → c .before .before .before .loop .o * 8 + c .before .loop2 .i < t64
+row-lt c = omega arith
 
-row-at-requires-3 : tie.Need-row-at-requires-3 Inv-loop μ-loop
-row-at-requires-3 c κs =
-    let at-loop = c .before .before .before .before in
-    omega (arith, at-loop .loop .inv .2, start-room size64 (at-loop .loop .r - 1) (omega arith))
+-- and lies within the block
+row-room : (c : tie.After-row-start Inv-loop2 μ-loop2 Inv-loop μ-loop) → c .row-start .result + lanes t64 ≤ length (now (c .before .before .before .before .before .before .before .before .before .args .input))
+row-room c = omega (arith, start-in size64 _ _ _ (c .before .loop2-test .taken) (row-lt (c .before)) (c .row-start .ensures))
 
-wrapping-sub-requires-2 : tie.Need-wrapping-sub-requires-2 Inv-loop μ-loop
-wrapping-sub-requires-2 c κs = search needs
+row-at-requires : tie.Need-row-at-requires Inv-loop2 μ-loop2 Inv-loop μ-loop
+row-at-requires c κs = row-room (c .before)
 
-put-at-requires-2 : tie.Need-put-at-requires-2 Inv-loop μ-loop
-put-at-requires-2 c κs =
-    let at-start = c .before .before .before .before in
-    omega
-    (arith, row-room size64 _ _ (at-start .before .loop-test .taken) (at-start .row-start .ensures), rewritten-length (at-start .before .before .loop .inv .3 .1))
+wrapping-sub-requires : tie.Need-wrapping-sub-requires Inv-loop2 μ-loop2 Inv-loop μ-loop
+wrapping-sub-requires c κs = search needs
 
-add-r : tie.Need-add-r Inv-loop μ-loop
-add-r c = omega arith
-
-loop-less : tie.Need-loop-less Inv-loop μ-loop
-loop-less c = omega arith
-
-loop-again : tie.Need-loop-again Inv-loop μ-loop
-loop-again c =
-    let at-sub = c .before .before .before in
-    let at-start = at-sub .before .before .before .before in
+put-at-requires : tie.Need-put-at-requires Inv-loop2 μ-loop2 Inv-loop μ-loop
+put-at-requires c κs =
+    let at-start = c .before .before .before in
     let in-loop = at-start .before in
-    let at-loop = in-loop .before in
-    let start = at-loop .before .before .before .before .before .before .before .before .before .before .before in
-    let inv = at-loop .loop .inv in
+    rw (rewritten-length (in-loop .before .loop2 .inv .2)) (start-in size64 _ _ _ (in-loop .loop2-test .taken) (row-lt in-loop) (at-start .row-start .ensures))
+
+row-at-requires-2 : tie.Need-row-at-requires-2 Inv-loop2 μ-loop2 Inv-loop μ-loop
+row-at-requires-2 c κs = row-room (c .before .before .before .before .before .before)
+
+add-i : tie.Need-add-i Inv-loop2 μ-loop2 Inv-loop μ-loop
+add-i c = omega arith
+
+loop2-less : tie.Need-loop2-less Inv-loop2 μ-loop2 Inv-loop μ-loop
+loop2-less c = omega arith
+
+loop2-again : tie.Need-loop2-again Inv-loop2 μ-loop2 Inv-loop μ-loop
+loop2-again c =
+    let at-sub = c .before .before .before .before in
+    let at-start = at-sub .before .before .before in
+    let in-loop = at-start .before in
+    let start = in-loop .before .before .before .before .before .before .before .before in
+    let inv = in-loop .before .loop2 .inv in
+    let o = in-loop .before .before .before .loop .o in
+    let i = in-loop .before .loop2 .i in
     let input = now (start .args .input) in
-    let r = at-loop .loop .r in
-    let hr = in-loop .loop-test .taken in
-    let found = row-found size64 _ _ hr (at-start .row-start .ensures) in
-    let e : r - 1 + 1 ≡ r = omega arith in
-    let next =
-    at-sub .wrapping-sub2 .ensures
-    ∙ ap₂ (subOf t64)
-    (at-sub .before .before .row-at2 .ensures ∙ values-at t64 r _ input found)
-    (at-sub .before .row-at3 .ensures ∙ values-at t64 (r - 1) _ input (inv .2))
-    ∙ sub-tab t64 _ _
-    ∙ rw e at (delta-row-next size64 input (now (start .args .base)) (r - 1) (rw e hr)) in (
+    let base = now (start .args .base) in
+    let taken = in-loop .loop2-test .taken in
+    let hr = row-lt in-loop in
+    let found = row-from t64 _ _ input (start-at size64 _ _ _ taken hr (at-start .row-start .ensures)) in
+    let row = at-sub .wrapping-sub .ensures ∙ ap₂ (subOf t64) (at-sub .before .row-at .ensures ∙ found) (inv .1) ∙ differ-row size64 input base (o * 8 + i) hr (start .pre .1 .0) in (
       omega arith,
-      omega arith,
-      found ∙ ap (λ n. place n 0) (omega arith),
-      (_, next-row size64 r _ hr found (inv .3 .1) next (c .before .before .put-at2 .ensures)),
+      c .row-at2 .ensures ∙ found ∙ sym (before-later t64 input base (o * 8 + i)) ∙ ap (rowBefore t64 input base) (add-assoc (o * 8) i 1),
+      rewritten-put size64 _ _ _ taken hr (at-start .row-start .ensures) (inv .2) row (c .before .before .before .put-at .ensures),
     )
 
-same-length : tie.Need-same-length Inv-loop μ-loop
-same-length c = omega (arith, rewritten-length (c .before .loop .inv .3 .1))
+add-o : tie.Need-add-o Inv-loop2 μ-loop2 Inv-loop μ-loop
+add-o c = omega arith
 
-returns : tie.Need-returns Inv-loop μ-loop
+loop-less : tie.Need-loop-less Inv-loop2 μ-loop2 Inv-loop μ-loop
+loop-less c = omega arith
+
+loop-again : tie.Need-loop-again Inv-loop2 μ-loop2 Inv-loop μ-loop
+loop-again c =
+    let o = c .before .before .before .loop .o in
+    let inv = c .before .loop2 .inv in
+    let e : c .before .loop2 .i ≡ 8 = omega arith in
+    let next : o * 8 + c .before .loop2 .i ≡ (o + 1) * 8 = omega arith in
+    (omega arith, rw next at (inv .1), rewritten-eight o (c .before .before .before .loop .inv .2) (rw e at (inv .2 .is)))
+
+same-length : tie.Need-same-length Inv-loop2 μ-loop2 Inv-loop μ-loop
+same-length c = omega (arith, rewritten-length (c .before .loop .inv .2))
+
+returns : tie.Need-returns Inv-loop2 μ-loop2 Inv-loop μ-loop
 unfolding deltaOf
-returns c = rewritten-all size64 (c .before .loop .inv .3 .1) (omega arith)
+returns c = rewritten-all size64 (c .before .loop .inv .2) (omega arith)
 
 pub differences-spec : {M : Type 1} → statement M
 differences-spec =
     tie.close
     (tie.spec
+    Inv-loop2
+    μ-loop2
     Inv-loop
     μ-loop
-    row-at-requires
     load-requires
+    loop-holds
+    loop2-holds
+    row-start-requires
+    row-at-requires
     wrapping-sub-requires
     put-at-requires
-    loop-holds
-    row-start-requires
     row-at-requires-2
-    row-at-requires-3
-    wrapping-sub-requires-2
-    put-at-requires-2
-    add-r
+    add-i
+    loop2-less
+    loop2-again
+    add-o
     loop-less
     loop-again
     same-length

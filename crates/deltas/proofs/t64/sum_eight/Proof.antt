@@ -10,8 +10,9 @@ use Rattle.places.specs.Sizes.{t64, lanes}
 use Rattle.places.proofs.Places.{size64}
 use Rattle.places.proofs.Tabs.{tab-ext}
 use Rattle.rows.proofs.Blocks.{Rewritten, rewritten-none, rewritten-length, rewritten-put, start-at, start-in}
+use Rattle.packing.proofs.Turns.{row-from}
 use Rattle.deltas.specs.InnerWalks.{sumRow, sumAt}
-use Rattle.deltas.proofs.Walks.{values-at, not-yet, sum-base, sum-turn}
+use Rattle.deltas.proofs.Walks.{not-yet, sum-base, sum-turn}
 use Rattle.deltas.proofs.t64.sum_eight.Statement.{statement}
 use Rattle.deltas.proofs.t64.sum_eight.Tie as tie
 
@@ -64,7 +65,7 @@ loop-again c =
     let found = start-at size64 _ _ _ (in-loop .loop-test .taken) hr (at-start .row-start .ensures) in
     let row =
     at-add .before .row-at .ensures
-    ∙ values-at t64 _ _ (at-loop .loop .values) found
+    ∙ row-from t64 _ _ (at-loop .loop .values) found
     ∙ tab-ext (lanes t64) _ _ 0 (λ l hl. not-yet size64 (inv .2) _ l (omega arith) hr hl) in
     let turn = sum-turn size64 (now (start .args .values)) _ (start .args .o * 8) (at-loop .loop .i) hr row (inv .1) (at-add .wrapping-add .ensures) in (
       omega arith,

@@ -1,91 +1,128 @@
--- `deltas::t64::sums` meets its contract. The loop's invariant: the first r rows are summed, and prev is the last of them.
+-- `deltas::t64::sums` meets its contract. The loops' invariants: the first rows are summed, and prev is the last of them.
 -- Assumes nothing.
-use mathlib.Core.Path.{_≡_, sym, ap, _∙_}
-use Prim.Native.Nat.{ℕ, _+_, _-_, _≤_, _<_}
-use native.Mathlib.Nat.{zero-add}
+use mathlib.Core.Path.{_≡_, _∙_}
+use Prim.Native.Nat.{_+_, _-_, _*_, _/_, _≤_, _<_}
+use native.Mathlib.Nat.{zero-add, add-zero, add-assoc}
 use native.Mathlib.Omega.{arith}
 use denote.Ref.{now}
-use lib.ListN.{length, getD}
 use borrow.Author.Needs.{needs}
-use Rattle.places.specs.Sizes.{t64, lanes}
+use Rattle.places.specs.Sizes.{t64}
 use Rattle.places.proofs.Places.{size64}
-use Rattle.rows.proofs.Blocks.{Rewritten, rewritten-none, rewritten-length, rewritten-all}
+use Rattle.rows.proofs.Blocks.{Rewritten, rewritten-none, rewritten-length, rewritten-put, rewritten-eight, rewritten-all, start-at, start-in}
+use Rattle.packing.proofs.Turns.{row-from}
 use Rattle.deltas.specs.InnerWalks.{sumRow, sumAt}
-use Rattle.deltas.proofs.Walks.{values-at, row-found, row-room, next-row, sum-base, sum-turn, load-base, undelta-sums}
+use Rattle.deltas.proofs.Walks.{sum-base, sum-turn, load-base, undelta-sums}
 use Rattle.deltas.proofs.t64.sums.Statement.{statement}
 use Rattle.deltas.proofs.t64.sums.Tie as tie
 
+abbrev Inv-loop2 : tie.InvT-loop2
+Inv-loop2 input base output₀ prev₀ o i₀ output prev i =
+    (i ≤ 8) × (prev ≡ sumRow t64 input base 0 (o * 8 + i)) × Rewritten t64 (o * 8) i (sumAt t64 input base 0) output₀ output
+
+abbrev μ-loop2 : tie.MeasureT-loop2
+μ-loop2 input base output₀ prev₀ o i₀ output prev i = 8 - i
+
 abbrev Inv-loop : tie.InvT-loop
-Inv-loop input base output₀ prev₀ r₀ output prev r =
-    (r ≤ t64) × (prev ≡ sumRow t64 input base 0 r) × Rewritten t64 0 r (sumAt t64 input base 0) output₀ output
+Inv-loop input base output₀ prev₀ o₀ output prev o =
+    (o ≤ t64 / 8) × (prev ≡ sumRow t64 input base 0 (o * 8)) × Rewritten t64 0 (o * 8) (sumAt t64 input base 0) output₀ output
 
 abbrev μ-loop : tie.MeasureT-loop
-μ-loop input base output₀ prev₀ r₀ output prev r = t64 - r
+μ-loop input base output₀ prev₀ o₀ output prev o = t64 / 8 - o
 
-load-requires : tie.Need-load-requires Inv-loop μ-loop
+load-requires : tie.Need-load-requires Inv-loop2 μ-loop2 Inv-loop μ-loop
 load-requires c κs = search needs
 
-loop-holds : tie.Need-loop-holds Inv-loop μ-loop
+loop-holds : tie.Need-loop-holds Inv-loop2 μ-loop2 Inv-loop μ-loop
 loop-holds c =
     let pre = c .before .before .before .before .pre in
     (search needs, c .load .ensures ∙ load-base t64 _ (pre .1 .0) ∙ sum-base t64 _ _ _ (pre .1 .0), rewritten-none (pre .1 .1))
 
-row-start-requires : tie.Need-row-start-requires Inv-loop μ-loop
+loop2-holds : tie.Need-loop2-holds Inv-loop2 μ-loop2 Inv-loop μ-loop
+loop2-holds c = (search needs, rw add-zero (c .before .loop .inv .1), rewritten-none (rewritten-length (c .before .loop .inv .2)))
+
+row-start-requires : tie.Need-row-start-requires Inv-loop2 μ-loop2 Inv-loop μ-loop
 row-start-requires c κs = search needs
 
-row-at-requires : tie.Need-row-at-requires Inv-loop μ-loop
-row-at-requires c κs = omega (arith, row-room size64 _ _ (c .before .loop-test .taken) (c .row-start .ensures))
+-- a turn of the inner loop: its row is one of the block's
+row-lt : (c : tie.In-loop2 Inv-loop2 μ-loop2 Inv-loop μ-loop) → c .before .before .before .loop .o * 8 + c .before .loop2 .i < t64
+row-lt c = omega arith
 
-wrapping-add-requires : tie.Need-wrapping-add-requires Inv-loop μ-loop
+row-at-requires : tie.Need-row-at-requires Inv-loop2 μ-loop2 Inv-loop μ-loop
+row-at-requires c κs = omega (arith, start-in size64 _ _ _ (c .before .loop2-test .taken) (row-lt (c .before)) (c .row-start .ensures))
+
+wrapping-add-requires : tie.Need-wrapping-add-requires Inv-loop2 μ-loop2 Inv-loop μ-loop
 wrapping-add-requires c κs = search needs
 
-put-at-requires : tie.Need-put-at-requires Inv-loop μ-loop
+put-at-requires : tie.Need-put-at-requires Inv-loop2 μ-loop2 Inv-loop μ-loop
 put-at-requires c κs =
     let at-start = c .before .before .before in
-    omega
-    (arith, row-room size64 _ _ (at-start .before .loop-test .taken) (at-start .row-start .ensures), rewritten-length (at-start .before .before .loop .inv .2))
+    let in-loop = at-start .before in
+    rw (rewritten-length (in-loop .before .loop2 .inv .2)) (start-in size64 _ _ _ (in-loop .loop2-test .taken) (row-lt in-loop) (at-start .row-start .ensures))
 
-add-r : tie.Need-add-r Inv-loop μ-loop
-add-r c = omega arith
+add-i : tie.Need-add-i Inv-loop2 μ-loop2 Inv-loop μ-loop
+add-i c = omega arith
 
-loop-less : tie.Need-loop-less Inv-loop μ-loop
-loop-less c = omega arith
+loop2-less : tie.Need-loop2-less Inv-loop2 μ-loop2 Inv-loop μ-loop
+loop2-less c = omega arith
 
-loop-again : tie.Need-loop-again Inv-loop μ-loop
-loop-again c =
+loop2-again : tie.Need-loop2-again Inv-loop2 μ-loop2 Inv-loop μ-loop
+loop2-again c =
     let at-add = c .before .before .before .before in
     let at-start = at-add .before .before in
     let in-loop = at-start .before in
-    let at-loop = in-loop .before in
-    let start = at-loop .before .before .before .before .before in
-    let inv = at-loop .loop .inv in
-    let r = at-loop .loop .r in
-    let hr = in-loop .loop-test .taken in
+    let start = in-loop .before .before .before .before .before .before .before .before in
+    let inv = in-loop .before .loop2 .inv in
+    let o = in-loop .before .before .before .loop .o in
+    let i = in-loop .before .loop2 .i in
     let input = now (start .args .input) in
-    let found = row-found size64 _ _ hr (at-start .row-start .ensures) in
-    let row = at-add .before .row-at .ensures ∙ values-at t64 r _ input found in
-    let turn = sum-turn size64 input _ 0 r (rw zero-add hr) (rw zero-add row) (inv .1) (at-add .wrapping-add .ensures) in
-    (omega arith, turn .0, next-row size64 r _ hr found (inv .2) (rw zero-add at (turn .1)) (c .before .before .put-at .ensures))
+    let taken = in-loop .loop2-test .taken in
+    let hr = row-lt in-loop in
+    let row = at-add .before .row-at .ensures ∙ row-from t64 _ _ input (start-at size64 _ _ _ taken hr (at-start .row-start .ensures)) in
+    let turn = sum-turn size64 input _ 0 (o * 8 + i) (rw zero-add hr) (rw zero-add row) (inv .1) (at-add .wrapping-add .ensures) in (
+      omega arith,
+      rw (add-assoc (o * 8) i 1) at (turn .0),
+      rewritten-put size64 _ _ _ taken hr (at-start .row-start .ensures) (inv .2) (rw zero-add at (turn .1)) (c .before .before .put-at .ensures),
+    )
 
-same-length : tie.Need-same-length Inv-loop μ-loop
+add-o : tie.Need-add-o Inv-loop2 μ-loop2 Inv-loop μ-loop
+add-o c = omega arith
+
+loop-less : tie.Need-loop-less Inv-loop2 μ-loop2 Inv-loop μ-loop
+loop-less c = omega arith
+
+loop-again : tie.Need-loop-again Inv-loop2 μ-loop2 Inv-loop μ-loop
+loop-again c =
+    let o = c .before .before .before .loop .o in
+    let inv = c .before .loop2 .inv in
+    let e : c .before .loop2 .i ≡ 8 = omega arith in
+    let next : o * 8 + c .before .loop2 .i ≡ (o + 1) * 8 = omega arith in
+    (omega arith, rw next at (inv .1), rewritten-eight o (c .before .before .before .loop .inv .2) (rw e at (inv .2 .is)))
+
+same-length : tie.Need-same-length Inv-loop2 μ-loop2 Inv-loop μ-loop
 same-length c = omega (arith, rewritten-length (c .before .loop .inv .2))
 
-returns : tie.Need-returns Inv-loop μ-loop
+returns : tie.Need-returns Inv-loop2 μ-loop2 Inv-loop μ-loop
 returns c = rewritten-all size64 (c .before .loop .inv .2) (omega arith) ∙ undelta-sums t64 _ _
 
 pub sums-spec : {M : Type 1} → statement M
 sums-spec =
     tie.close
     (tie.spec
+    Inv-loop2
+    μ-loop2
     Inv-loop
     μ-loop
     load-requires
     loop-holds
+    loop2-holds
     row-start-requires
     row-at-requires
     wrapping-add-requires
     put-at-requires
-    add-r
+    add-i
+    loop2-less
+    loop2-again
+    add-o
     loop-less
     loop-again
     same-length

@@ -11,8 +11,9 @@ use Rattle.places.specs.Sizes.{t8, lanes}
 use Rattle.places.proofs.Places.{size8}
 use Rattle.places.proofs.Tabs.{tab-ext}
 use Rattle.rows.proofs.Blocks.{Rewritten, rewritten-none, rewritten-length, rewritten-put, start-at, start-in}
+use Rattle.packing.proofs.Turns.{row-from}
 use Rattle.deltas.specs.InnerWalks.{sumRow, sumAt}
-use Rattle.deltas.proofs.Walks.{values-at, not-yet, sum-base, sum-turn}
+use Rattle.deltas.proofs.Walks.{not-yet, sum-base, sum-turn}
 use Rattle.deltas.proofs.t8.sum_eight.Statement.{statement}
 use Rattle.deltas.proofs.t8.sum_eight.Tie as tie
 
@@ -65,7 +66,7 @@ loop-again c =
     let found = start-at size8 _ _ _ (in-loop .loop-test .taken) hr (at-start .row-start .ensures) in
     let row =
     at-add .before .row-at .ensures
-    ∙ values-at t8 _ _ (at-loop .loop .values) found
+    ∙ row-from t8 _ _ (at-loop .loop .values) found
     ∙ tab-ext (lanes t8) _ _ 0 (λ l hl. not-yet size8 (inv .2) _ l (omega arith) hr hl) in
     let turn = sum-turn size8 (now (start .args .values)) _ (start .args .o * 8) (at-loop .loop .i) hr row (inv .1) (at-add .wrapping-add .ensures) in (
       omega arith,

@@ -12,7 +12,7 @@ use Rattle.places.specs.Sizes.{t32}
 use Rattle.places.proofs.Places.{size32}
 use Rattle.rows.proofs.Blocks.{start-at, start-in}
 use Rattle.packing.specs.InnerWalks.{Filled}
-use Rattle.packing.proofs.Turns.{word-room, filled-next, copied-words}
+use Rattle.packing.proofs.Turns.{filled-next, row-from, copied-words}
 use Rattle.packing.proofs.t32.pack_copy_eight.Statement.{statement}
 use Rattle.packing.proofs.t32.pack_copy_eight.Tie as tie
 
@@ -65,7 +65,8 @@ loop-again c =
       rw next
           (filled-next r hr (in-loop .before .loop .inv .1)
           (at-row .row-at .ensures
-          ∙ copied-words t32 r _ (now (args .values)) small hr (start-at size32 _ _ _ (in-loop .loop-test .taken) hr (at-start .row-start .ensures)))
+          ∙ row-from t32 r _ (now (args .values)) (start-at size32 _ _ _ (in-loop .loop-test .taken) hr (at-start .row-start .ensures))
+          ∙ copied-words size32 r (now (args .values)) (λ p _. small p) hr)
           (c .before .before .put-at .ensures)),
     )
 

@@ -39,19 +39,19 @@ loop-holds c = (search needs, at-first t64 _, rewritten-none (c .before .before 
 loop2-holds : tie.Need-loop2-holds Inv-loop2 μ-loop2 Inv-loop μ-loop
 loop2-holds c = (search needs, rw add-zero (c .before .loop .inv .1), rewritten-none (rewritten-length (c .before .loop .inv .2)))
 
--- a turn of the inner loop: its row is one of the block's, and the walk stands where it begins
+-- before the loops
+abbrev begun : tie.In-loop2 Inv-loop2 μ-loop2 Inv-loop μ-loop → tie.Start Inv-loop2 μ-loop2 Inv-loop μ-loop
+begun c = c .before .before .before .before .before .before
+
+-- a turn of the inner loop: its row is one of the block's, and begins in words that lie within the packed block
 row-lt : (c : tie.In-loop2 Inv-loop2 μ-loop2 Inv-loop μ-loop) → c .before .before .before .loop .o * 8 + c .before .loop2 .i < t64
 row-lt c = omega arith
 
--- and the words that it begins in, and those that it crosses into, lie within the packed block
-first-room : (c : tie.In-loop2 Inv-loop2 μ-loop2 Inv-loop μ-loop)
-    → c .before .loop2 .word + lanes t64 ≤ length (now (c .before .before .before .before .before .before .args .packed))
-first-room c =
-    let pre = c .before .before .before .before .before .before .pre in
-    omega (arith, at-room size64 (row-lt c) (pre .0 .0) (c .before .loop2 .inv .1))
+first-room : (c : tie.In-loop2 Inv-loop2 μ-loop2 Inv-loop μ-loop) → c .before .loop2 .word + lanes t64 ≤ length (now (begun c .args .packed))
+first-room c = omega (arith, at-room size64 (row-lt c) (begun c .pre .0 .0) (c .before .loop2 .inv .1))
 
 bit-lt : (c : tie.In-loop2 Inv-loop2 μ-loop2 Inv-loop μ-loop) → c .before .loop2 .s < t64
-bit-lt c = at-lt size64 (row-lt c) (c .before .before .before .before .before .before .pre .0 .0) (c .before .loop2 .inv .1)
+bit-lt c = at-lt size64 (row-lt c) (begun c .pre .0 .0) (c .before .loop2 .inv .1)
 
 row-at-requires : tie.Need-row-at-requires Inv-loop2 μ-loop2 Inv-loop μ-loop
 row-at-requires c κs = first-room c
@@ -68,8 +68,7 @@ add-word c = omega (arith, first-room (c .before .before .before))
 row-at-requires-2 : tie.Need-row-at-requires-2 Inv-loop2 μ-loop2 Inv-loop μ-loop
 row-at-requires-2 c κs =
     let in-loop = c .before .before .before .before in
-    let pre = in-loop .before .before .before .before .before .before .pre in
-    omega (arith, at-room-two size64 (row-lt in-loop) (pre .0 .0) (in-loop .before .loop2 .inv .1) (omega arith))
+    omega (arith, at-room-two size64 (row-lt in-loop) (begun in-loop .pre .0 .0) (in-loop .before .loop2 .inv .1) (omega arith))
 
 sub-or-shl : tie.Need-sub-or-shl Inv-loop2 μ-loop2 Inv-loop μ-loop
 sub-or-shl c = omega (arith, bit-lt (c .before .before .before .before .before))
@@ -97,13 +96,13 @@ loop2-less c = omega arith
 -- the row is read
 is-read : (c : tie.Joined1 Inv-loop2 μ-loop2 Inv-loop μ-loop)
     → let in-loop = c .before .before .before in
-    let start = in-loop .before .before .before .before .before .before in
+    let start = begun in-loop in
     Read t64 (start .args .width) (in-loop .before .before .before .loop .o * 8 + in-loop .before .loop2 .i) (now (start .args .packed))
     (c .if1 .row) (c .if1 .s) (c .if1 .word)
 is-read c =
     let at-shr = c .before in
     let in-loop = at-shr .before .before in
-    let start = in-loop .before .before .before .before .before .before in
+    let start = begun in-loop in
     let packed = now (start .args .packed) in
     let small : Elements t64 packed = λ i. omega (arith, in-loop .before .before .before .before .before .shared-slice-known .given i) in
     let at = in-loop .before .loop2 .inv .1 in

@@ -12,7 +12,7 @@ use Rattle.places.specs.Sizes.{t8}
 use Rattle.places.proofs.Places.{size8}
 use Rattle.rows.proofs.Blocks.{start-at, start-in}
 use Rattle.packing.specs.InnerWalks.{Filled}
-use Rattle.packing.proofs.Turns.{word-room, filled-next, copied-words}
+use Rattle.packing.proofs.Turns.{filled-next, row-from, copied-words}
 use Rattle.packing.proofs.t8.pack_copy_eight.Statement.{statement}
 use Rattle.packing.proofs.t8.pack_copy_eight.Tie as tie
 
@@ -65,7 +65,8 @@ loop-again c =
       rw next
           (filled-next r hr (in-loop .before .loop .inv .1)
           (at-row .row-at .ensures
-          ∙ copied-words t8 r _ (now (args .values)) small hr (start-at size8 _ _ _ (in-loop .loop-test .taken) hr (at-start .row-start .ensures)))
+          ∙ row-from t8 r _ (now (args .values)) (start-at size8 _ _ _ (in-loop .loop-test .taken) hr (at-start .row-start .ensures))
+          ∙ copied-words size8 r (now (args .values)) (λ p _. small p) hr)
           (c .before .before .put-at .ensures)),
     )
 
