@@ -151,8 +151,33 @@ fn lay_down(e: Entry, body: &[u8], output: &mut [u64]) -> FileAnswer
     }
 }
 
-// The block of a packed body or of a frame. Its words go by way of an array, of which the part that they fill is lent.
+// The block of a packed body or of a frame. Its words go by way of an array, of which the part that they fill is lent. To set an array for 1,024
+// words to zeros is a sixth of the work, so the widths up to 32 have a smaller one.
 fn packed_out(e: Entry, body: &[u8], output: &mut [u64])
+    requires { ⌜ (e .kind < 2) × (e .width ≤ 64) ⌝ }
+    requires { ⌜ length (now body) ≡ 128 * e .width ⌝ }
+    requires { ⌜ length (now output) ≡ 1024 ⌝ }
+    ensures { λ _. ⌜ now (output .exit) ≡ blockOf e (now (body .entry)) ⌝ }
+{
+    if e.width <= 32 {
+        packed_narrow(e, body, output);
+    } else {
+        packed_wide(e, body, output);
+    }
+}
+
+fn packed_narrow(e: Entry, body: &[u8], output: &mut [u64])
+    requires { ⌜ (e .kind < 2) × (e .width ≤ 32) ⌝ }
+    requires { ⌜ length (now body) ≡ 128 * e .width ⌝ }
+    requires { ⌜ length (now output) ≡ 1024 ⌝ }
+    ensures { λ _. ⌜ now (output .exit) ≡ blockOf e (now (body .entry)) ⌝ }
+{
+    let mut words = [0u64; 512];
+    let n = e.width as usize * 16;
+    packed_through(e, body, &mut words[..n], output);
+}
+
+fn packed_wide(e: Entry, body: &[u8], output: &mut [u64])
     requires { ⌜ (e .kind < 2) × (e .width ≤ 64) ⌝ }
     requires { ⌜ length (now body) ≡ 128 * e .width ⌝ }
     requires { ⌜ length (now output) ≡ 1024 ⌝ }
