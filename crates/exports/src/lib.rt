@@ -4,6 +4,7 @@
 // Each function gives the number of the call's answer, and the place and what else the call gives through lent numbers. Its contract
 // is that of the call, whole, and nothing is required of a caller but what the types say: docs/DECISIONS.md has what that is at
 // this boundary. The calls on blocks have a module for each element size; what the sizes share stands here.
+pub mod columns;
 pub mod t16;
 pub mod t32;
 pub mod t64;
@@ -12,8 +13,11 @@ pub mod t8;
 use access::Afforded;
 use access::Listed;
 use access::Words;
+use bits::BitBlock;
+use bits::untranspose_bits;
 use places::Answer;
 ghost use mathlib.Core.Path.{_≡_};
+ghost use Rattle.bits.specs.Bits.{untransposeBitsOf};
 ghost use Rattle.exports.specs.Handed.{Handed, ListHanded, FrontHanded};
 
 // Hands an answer on: its place through the lent number, and its number as the result.
@@ -39,4 +43,12 @@ fn hand_front(front: Afforded, answered: &mut usize, words: &mut Words, place: &
     *answered = front.answered();
     *words = front.words();
     hand(front.answer(), place)
+}
+
+// Moves the bits of a block that was transposed for u64 back to where they came from; always answers.
+#[no_mangle]
+pub extern "C" fn fascjoldi_untranspose_bits_u64(input: &BitBlock, output: &mut BitBlock)
+    ensures { λ _. ⌜ now (output .exit) ≡ untransposeBitsOf (now (input .entry)) ⌝ }
+{
+    *output = untranspose_bits(*input);
 }

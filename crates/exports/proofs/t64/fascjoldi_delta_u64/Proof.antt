@@ -1,3 +1,5 @@
+-- `fascjoldi_delta_u64` gives and leaves what `delta` does.
+-- Assumes nothing.
 use borrow.Author.Needs.{needs}
 use Rattle.exports.proofs.Handed.{handed-on}
 use Rattle.exports.proofs.t64.fascjoldi_delta_u64.Statement.{statement}

@@ -1,3 +1,5 @@
+-- `fascjoldi_unpack_single_u64` gives and leaves what `unpack_single` does.
+-- Assumes nothing.
 use borrow.Author.Needs.{needs}
 use Rattle.exports.proofs.Handed.{single-on}
 use Rattle.exports.proofs.t64.fascjoldi_unpack_single_u64.Statement.{statement}
