@@ -1,22 +1,23 @@
 /*
- * Fascjoldi: pack, unpack and look up blocks of 1,024 unsigned numbers, and read and write column files of them.
+ * Fascjoldi: packs, unpacks and looks up blocks of 1,024 unsigned numbers, and reads and writes column files of them.
  *
- * What is proved. Behind each function stands a call of Fascjoldi whose outcome is proved for every input: its number, its place, what
- * else it gives, and every element of each buffer afterwards. The function is proved to hand that on, and asks nothing of its numbers and
- * lengths: a width that is too high or a length that does not fit is refused, and never read past.
- * What is not proved is what a C program alone can see to, and the proof takes for granted. Each pointer is not null, also where its
- * length is 0, is aligned for its type, and points to as many elements as its length says, all of them written before. Nothing that
- * a call writes overlaps anything else that the same call is lent: no buffer of it and no lent number. No other thread writes to what
- * is lent while the call runs. This header is not proved either: tools/header writes it from the text of the functions, and the
- * tests fail where the two differ. So is the compiler that made the archive, for x86-64 Linux, not proved.
+ * What is proved. Behind each function stands a call of Fascjoldi whose outcome is proved for every input: its number, its place,
+ * what else it gives, and every element of each buffer afterwards. The function is proved to hand that on. It asks nothing of the
+ * numbers and lengths that it is given: a width that is too high or a length that does not fit is refused, and nothing is read or
+ * written past a length.
+ * What is not proved is what the program alone can see to. The proof takes for granted that each pointer is not null, also where its
+ * length is 0, is aligned for its type, and points to as many elements as its length says, all of which were written before; that
+ * nothing which a call writes, buffer or lent number, overlaps anything else that the same call is lent; and that no other thread
+ * touches what is lent while the call runs. Nor is this header proved: tools/header writes it from the text of the functions, and
+ * the tests fail where the two differ. Nor is the compiler that made the archive, which is for Linux on x86-64.
  *
- * What a call gives. The result is the number of its answer, from the list below, but where the sentence of a function says that
- * it gives a number of another kind. *place is the place that goes with the number, and 0 where the list names none. The lent numbers,
- * as *place, *value, *words and *length, are written by every call, also when it is refused. A buffer, which is a pointer with a
- * length, is written only where the number is FASCJOLDI_DONE: a refused call leaves each buffer as it was. Where several numbers apply to a
+ * What a call gives. The result is the number of its answer, from the list below; where a function says or gives something else, its
+ * sentence has it. *place is the place that goes with the number, and 0 where the list names none. The lent numbers, as *place,
+ * *value, *words and *length, are written by every call, also when it is refused. A buffer, which is a pointer with a length, is
+ * written only where the number is FASCJOLDI_DONE: a refused call leaves each buffer as it was. Where several numbers apply to a
  * call on blocks the lowest is given; a call on a file goes through its tests in the order of docs/FORMAT.md.
  *
- * T stands for the bits of an element, 8, 16, 32 or 64, and LANES for 1024 / T. A packed block of a width has LANES times the width elements.
+ * T stands for the bits of an element, 8, 16, 32 or 64, and LANES for 1024 / T. A packed block has LANES times its width elements.
  */
 #ifndef FASCJOLDI_H
 #define FASCJOLDI_H
@@ -34,26 +35,27 @@ extern "C" {
 /* The numbers. Where the meaning names the lowest place, entry or block, that is *place. */
 enum fascjoldi_number {
     FASCJOLDI_DONE = 0, /* the call is done */
-    FASCJOLDI_WIDTH = 1, /* the width is above T */
+    FASCJOLDI_WIDTH = 1, /* the width is above T; of chunks: the width is above 64 */
     FASCJOLDI_BLOCK = 2, /* a buffer for a block is not 1,024 long; of a file: a block that is lent is not 1,024 long, or the
-        numbers to be written are no whole blocks or more than 256 of them */
+        numbers to be written are no whole blocks or more than 256 of them; of chunks: the output is not 1,024 long */
     FASCJOLDI_PACKED = 3, /* the packed length is not LANES times the width */
     FASCJOLDI_BASE = 4, /* the base is not LANES long */
     FASCJOLDI_LISTS = 5, /* an index list and its output differ in length */
     FASCJOLDI_INDEX = 6, /* an index is 1,024 or more; the lowest such place of the list, 0 for single access */
     FASCJOLDI_DICTIONARY = 7, /* a dictionary index is at or beyond the dictionary's length; the lowest such place */
-    FASCJOLDI_CUT = 8, /* the file is cut short: in its first four bytes, in the entries or in the bodies */
-    FASCJOLDI_EDITION = 9, /* the edition is neither 1 nor 2, or there are more than 256 blocks; of the canonical check also a
-        readable file of edition 1 */
-    FASCJOLDI_BAD_ENTRY = 10, /* an entry is not as laid out, or is of kind 3 in edition 2, or its smallest value is above its
-        largest; the lowest such entry */
-    FASCJOLDI_OVER = 11, /* there are bytes after the last body */
-    FASCJOLDI_BEYOND = 12, /* there is no block, or no row, with this number */
-    FASCJOLDI_RUNS = 13, /* a run index is out of range; the lowest block that has one */
-    FASCJOLDI_ROOM = 14, /* the output is shorter than what is to be written: the file, one body of it, or the rows that were
-        found */
-    FASCJOLDI_RANGE = 15, /* a smallest or largest value is not the body's true one; the lowest block that has one */
-    FASCJOLDI_FOREIGN = 17, /* a block is not as our writer would write it; the lowest such block */
+    FASCJOLDI_CUT = 8, /* of a file: the file is cut short: in its first four bytes, in the entries or in the bodies */
+    FASCJOLDI_EDITION = 9, /* of a file: the edition is neither 1 nor 2, or there are more than 256 blocks; of the canonical check
+        also a readable file of edition 1 */
+    FASCJOLDI_BAD_ENTRY = 10, /* of a file: an entry is not as laid out, or is of kind 3 in edition 2, or its smallest value is
+        above its largest; the lowest such entry */
+    FASCJOLDI_OVER = 11, /* of a file: there are bytes after the last body */
+    FASCJOLDI_BEYOND = 12, /* of a file: there is no block, or no row, with this number */
+    FASCJOLDI_RUNS = 13, /* of a file: a run index is out of range; the lowest block that has one */
+    FASCJOLDI_ROOM = 14, /* of a file: the output is shorter than what is to be written: the file, one body of it, or the rows that
+        were found */
+    FASCJOLDI_RANGE = 15, /* of a file: a smallest or largest value is not the body's true one; the lowest block that has one */
+    FASCJOLDI_EARLY = 16, /* of chunks: the values are asked for too early; the bytes held so far */
+    FASCJOLDI_FOREIGN = 17, /* of a file: a block is not as our writer would write it; the lowest such block */
 };
 
 /* What stands for a count of packed words where there is none. */
@@ -298,6 +300,19 @@ size_t fascjoldi_body_check_range(const uint8_t *front, size_t front_length, siz
    not 1,024 long. */
 size_t fascjoldi_block_differing(const uint64_t *left, size_t left_length, const uint64_t *right, size_t right_length,
     uint16_t *places, size_t places_length);
+
+/* ---- The calls on a packed uint64_t body that comes in chunks. The program keeps the state, which is *width, *held and room, and lends
+   it to each call as the call before left it. A start writes all of it, also when it is refused. */
+
+/* Begins a body of the width that is asked for, with nothing held; refused, the state is that of width 0. */
+size_t fascjoldi_trickle_start(size_t asked, size_t *width, size_t *held, uint8_t room[8192], size_t *place);
+
+/* Feeds a chunk to a state, and gives how many of its bytes were taken: all, or what the body still lacked. */
+size_t fascjoldi_trickle_feed(size_t *width, size_t *held, uint8_t room[8192], const uint8_t *chunk, size_t chunk_length);
+
+/* Lays down the 1,024 values of a state when the bytes of its body are all there. */
+size_t fascjoldi_trickle_ask(size_t width, size_t held, const uint8_t room[8192], uint64_t *output, size_t output_length,
+    size_t *place);
 
 #ifdef __cplusplus
 }

@@ -195,6 +195,38 @@ AT_SIZE(u16, uint16_t)
 AT_SIZE(u32, uint32_t)
 AT_SIZE(u64, uint64_t)
 
+/* Feeds the bytes of a from a place on, in chunks of the lengths that b has, and asks; a chunk ends where the bytes end. */
+static void fed(struct head h, size_t at, size_t width, size_t held, uint8_t room[8192], struct reply *r)
+{
+    const uint8_t *bytes = (const uint8_t *)a.elements;
+    for (size_t i = 0; i < h.n_b; i++) {
+        size_t count = b.elements[i] < h.n_a - at ? b.elements[i] : h.n_a - at;
+        r->value += fascjoldi_trickle_feed(&width, &held, room, bytes + at, count);
+        at += count;
+    }
+    r->number = fascjoldi_trickle_ask(width, held, room, c.elements, h.n_c, &r->place);
+}
+
+/* A body that comes in chunks: from its start, or from a state that is handed in. */
+static int call_chunks(struct head h, struct reply *r)
+{
+    static uint8_t room[8192];
+    size_t width = 77, held = 77;
+    if (h.op == 30 && h.reference == 0) {
+        if (h.n_a < sizeof room) {
+            return 0;
+        }
+        memcpy(room, a.elements, sizeof room);
+        fed(h, sizeof room, h.width, h.index, room, r);
+        return 1;
+    }
+    r->number = fascjoldi_trickle_start(h.width, &width, &held, room, &r->place);
+    if (h.op == 30 || r->number == 0) {
+        fed(h, 0, width, held, room, r);
+    }
+    return 1;
+}
+
 /* The calls that are there for u64 alone, and those of every size; 0 where there is no such call. */
 static int call(struct head h, struct reply *r)
 {
@@ -230,6 +262,8 @@ static int call(struct head h, struct reply *r)
     case 22:
         r->number = fascjoldi_file_check_canonical(file, h.n_a, &r->place);
         return 1;
+    case 26: case 30:
+        return call_chunks(h, r);
     default:
         return h.t == 8 ? call_u8(h, r) : h.t == 16 ? call_u16(h, r) : h.t == 32 ? call_u32(h, r) : h.t == 64 ? call_u64(h, r) : 0;
     }

@@ -4,6 +4,7 @@
 // Each function gives the number of the call's answer, and the place and what else the call gives through lent numbers. Its contract
 // is that of the call, whole, and nothing is required of a caller but what the types say: docs/DECISIONS.md has what that is at
 // this boundary. The calls on blocks have a module for each element size; what the sizes share stands here.
+pub mod chunks;
 pub mod columns;
 pub mod t16;
 pub mod t32;
