@@ -13,7 +13,11 @@ pub struct Body {
 impl Body {
     /// Begins a body of a width, with nothing held; refused where the width is above 64.
     pub fn start(width: usize) -> Result<Self, Refused> {
-        let mut body = Body { width: 0, held: 0, room: Box::new([0; 8192]) };
+        let mut body = Body {
+            width: 0,
+            held: 0,
+            room: Box::new([0; 8192]),
+        };
         asked!(chunks::trickle_start(width, &mut body.width, &mut body.held, &mut body.room) gives body)
     }
 

@@ -33,7 +33,10 @@ macro_rules! fits {
     ($element:ty, $width:expr, $length:expr) => {
         const {
             assert!($width <= <$element>::T, "the width is above the bits of the element");
-            assert!($length == <$element>::LANES * $width, "the packed length is not LANES times the width");
+            assert!(
+                $length == <$element>::LANES * $width,
+                "the packed length is not LANES times the width"
+            );
         }
     };
 }
@@ -130,11 +133,7 @@ pub trait Delta: BitPacking {
 
     fn undelta<const LANES: usize>(input: &[Self; 1024], base: &[Self; LANES], output: &mut [Self; 1024]);
 
-    fn undelta_pack<const LANES: usize, const W: usize, const B: usize>(
-        input: &[Self; B],
-        base: &[Self; LANES],
-        output: &mut [Self; 1024],
-    );
+    fn undelta_pack<const LANES: usize, const W: usize, const B: usize>(input: &[Self; B], base: &[Self; LANES], output: &mut [Self; 1024]);
 }
 
 impl<T: BitPacking + Blocks> Delta for T {

@@ -13,6 +13,7 @@ mod blocks;
 pub mod chunks;
 pub mod files;
 mod lanes;
+#[rustfmt::skip]
 mod sys;
 
 pub use blocks::{Blocks, Front, Single};

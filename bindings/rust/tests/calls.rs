@@ -67,7 +67,10 @@ fn blocks_are_refused() {
     assert_eq!(Blocks::pack(3, &values, &mut output[..383]), refused(3, 0));
     assert_eq!(Blocks::delta(&values, &[0; 127], &mut output), refused(4, 0));
     assert_eq!(Blocks::unpack_indices(8, &values, &[0, 1], &mut output[..1]), refused(5, 0));
-    assert_eq!(Blocks::unpack_indices(8, &values, &[0, 1023, 1024], &mut output[..3]), refused(6, 2));
+    assert_eq!(
+        Blocks::unpack_indices(8, &values, &[0, 1023, 1024], &mut output[..3]),
+        refused(6, 2)
+    );
     assert_eq!(Blocks::unpack_single(8, &values, 1024), refused(6, 0));
     let mut indices = [0; 1024];
     indices[5] = 3;
@@ -101,7 +104,10 @@ fn a_file_is_written_read_and_compared() {
     let front = &file[..files::front_length(&file[..4])];
     assert_eq!(files::front_check(front, file.len()), Ok(()));
     let entry = files::entry(front, 0);
-    assert_eq!((entry.kind, entry.width, entry.zero, entry.length, entry.reference), (1, 2, 0, 256, 7));
+    assert_eq!(
+        (entry.kind, entry.width, entry.zero, entry.length, entry.reference),
+        (1, 2, 0, 256, 7)
+    );
     assert_eq!((files::range(front, 0).smallest, files::range(front, 0).largest), (7, 9));
     assert_eq!(files::body_block_out(front, 0, &file[36..], &mut left), Ok(()));
     assert_eq!(left, values);
