@@ -5,14 +5,15 @@
  * what else it gives, and every element of each buffer afterwards. The function is proved to hand that on. It asks nothing of the
  * numbers and lengths that it is given: a width that is too high or a length that does not fit is refused, and nothing is read or
  * written past a length.
- * What is not proved is what the program alone can see to. The proof takes for granted that each pointer is not null, also where its
- * length is 0, is aligned for its type, and points to as many elements as its length says, all of which were written before; that
- * nothing which a call writes, buffer or lent number, overlaps anything else that the same call is lent; and that no other thread
- * touches what is lent while the call runs. Nor is this header proved: tools/header writes it from the text of the functions, and
- * the tests fail where the two differ. Nor is the compiler that made the archive, which is for Linux on x86-64.
+ * What is not proved is what the program alone can see to. The proof takes for granted that each pointer is not null, also where
+ * its length is 0, is aligned for its type, and points to as many elements as its length says, all of which were written before;
+ * that nothing which a call writes, buffer or lent number, overlaps anything else that the same call is lent; and that no other
+ * thread touches what is lent while the call runs. Nor is this header proved: tools/header writes it from the text of the functions,
+ * and the tests fail where the two differ. Nor are the compiler that made the archive, which is for Linux on x86-64, and how much
+ * stack a call takes.
  *
- * What a call gives. The result is the number of its answer, from the list below; where a function says or gives something else, its
- * sentence has it. *place is the place that goes with the number, and 0 where the list names none. The lent numbers, as *place,
+ * What a call gives. The result is the number of its answer, from the list below; where a function says or gives something else,
+ * its sentence has it. *place is the place that goes with the number, and 0 where the list names none. The lent numbers, as *place,
  * *value, *words and *length, are written by every call, also when it is refused. A buffer, which is a pointer with a length, is
  * written only where the number is FASCJOLDI_DONE: a refused call leaves each buffer as it was. Where several numbers apply to a
  * call on blocks the lowest is given; a call on a file goes through its tests in the order of docs/FORMAT.md.
@@ -51,8 +52,8 @@ enum fascjoldi_number {
     FASCJOLDI_OVER = 11, /* of a file: there are bytes after the last body */
     FASCJOLDI_BEYOND = 12, /* of a file: there is no block, or no row, with this number */
     FASCJOLDI_RUNS = 13, /* of a file: a run index is out of range; the lowest block that has one */
-    FASCJOLDI_ROOM = 14, /* of a file: the output is shorter than what is to be written: the file, one body of it, or the rows that
-        were found */
+    FASCJOLDI_ROOM = 14, /* of a file: the output is shorter than what is to be written: the file, one body of it, or the rows
+        that were found */
     FASCJOLDI_RANGE = 15, /* of a file: a smallest or largest value is not the body's true one; the lowest block that has one */
     FASCJOLDI_EARLY = 16, /* of chunks: the values are asked for too early; the bytes held so far */
     FASCJOLDI_FOREIGN = 17, /* of a file: a block is not as our writer would write it; the lowest such block */
@@ -114,13 +115,17 @@ size_t fascjoldi_unpack_indices_u64(size_t width, const uint64_t *packed, size_t
 /* Unpacks the values at the first places of a list, as many as the budget of words is enough for, and says how many these are and
    how many words they stand in; refused, both are 0. */
 size_t fascjoldi_unpack_within_u8(size_t width, const uint8_t *packed, size_t packed_length, const size_t *indices,
-    size_t indices_length, uint64_t budget, uint8_t *output, size_t output_length, size_t *answered, uint64_t *words, size_t *place);
+    size_t indices_length, uint64_t budget, uint8_t *output, size_t output_length, size_t *answered, uint64_t *words,
+    size_t *place);
 size_t fascjoldi_unpack_within_u16(size_t width, const uint16_t *packed, size_t packed_length, const size_t *indices,
-    size_t indices_length, uint64_t budget, uint16_t *output, size_t output_length, size_t *answered, uint64_t *words, size_t *place);
+    size_t indices_length, uint64_t budget, uint16_t *output, size_t output_length, size_t *answered, uint64_t *words,
+    size_t *place);
 size_t fascjoldi_unpack_within_u32(size_t width, const uint32_t *packed, size_t packed_length, const size_t *indices,
-    size_t indices_length, uint64_t budget, uint32_t *output, size_t output_length, size_t *answered, uint64_t *words, size_t *place);
+    size_t indices_length, uint64_t budget, uint32_t *output, size_t output_length, size_t *answered, uint64_t *words,
+    size_t *place);
 size_t fascjoldi_unpack_within_u64(size_t width, const uint64_t *packed, size_t packed_length, const size_t *indices,
-    size_t indices_length, uint64_t budget, uint64_t *output, size_t output_length, size_t *answered, uint64_t *words, size_t *place);
+    size_t indices_length, uint64_t budget, uint64_t *output, size_t output_length, size_t *answered, uint64_t *words,
+    size_t *place);
 
 /* Stores at each place its value minus the value of the row before in its lane, at row 0 minus the lane's base. */
 size_t fascjoldi_delta_u8(const uint8_t *input, size_t input_length, const uint8_t *base, size_t base_length, uint8_t *output,
@@ -135,16 +140,16 @@ size_t fascjoldi_delta_u64(const uint64_t *input, size_t input_length, const uin
 /* Sums along each lane by rows, from the lane's base: undoes delta. */
 size_t fascjoldi_undelta_u8(const uint8_t *input, size_t input_length, const uint8_t *base, size_t base_length, uint8_t *output,
     size_t output_length, size_t *place);
-size_t fascjoldi_undelta_u16(const uint16_t *input, size_t input_length, const uint16_t *base, size_t base_length, uint16_t *output,
-    size_t output_length, size_t *place);
-size_t fascjoldi_undelta_u32(const uint32_t *input, size_t input_length, const uint32_t *base, size_t base_length, uint32_t *output,
-    size_t output_length, size_t *place);
-size_t fascjoldi_undelta_u64(const uint64_t *input, size_t input_length, const uint64_t *base, size_t base_length, uint64_t *output,
-    size_t output_length, size_t *place);
+size_t fascjoldi_undelta_u16(const uint16_t *input, size_t input_length, const uint16_t *base, size_t base_length,
+    uint16_t *output, size_t output_length, size_t *place);
+size_t fascjoldi_undelta_u32(const uint32_t *input, size_t input_length, const uint32_t *base, size_t base_length,
+    uint32_t *output, size_t output_length, size_t *place);
+size_t fascjoldi_undelta_u64(const uint64_t *input, size_t input_length, const uint64_t *base, size_t base_length,
+    uint64_t *output, size_t output_length, size_t *place);
 
 /* Unpacks differences of `width` bits each, and sums them along each lane by rows, from the lane's base. */
-size_t fascjoldi_undelta_pack_u8(size_t width, const uint8_t *packed, size_t packed_length, const uint8_t *base, size_t base_length,
-    uint8_t *values, size_t values_length, size_t *place);
+size_t fascjoldi_undelta_pack_u8(size_t width, const uint8_t *packed, size_t packed_length, const uint8_t *base,
+    size_t base_length, uint8_t *values, size_t values_length, size_t *place);
 size_t fascjoldi_undelta_pack_u16(size_t width, const uint16_t *packed, size_t packed_length, const uint16_t *base,
     size_t base_length, uint16_t *values, size_t values_length, size_t *place);
 size_t fascjoldi_undelta_pack_u32(size_t width, const uint32_t *packed, size_t packed_length, const uint32_t *base,
@@ -245,8 +250,8 @@ size_t fascjoldi_file_row_at(const uint8_t *file, size_t file_length, size_t row
 size_t fascjoldi_file_write(const uint64_t *values, size_t values_length, uint8_t *output, size_t output_length, size_t *length,
     size_t *place);
 
-/* Writes the rows of any readable column file as our writer would, and says how many bytes the new file has; refused, the length is
-   0. */
+/* Writes the rows of any readable column file as our writer would, and says how many bytes the new file has; refused, the length
+   is 0. */
 size_t fascjoldi_file_rewrite(const uint8_t *file, size_t file_length, uint8_t *output, size_t output_length, size_t *length,
     size_t *place);
 
@@ -296,13 +301,13 @@ size_t fascjoldi_body_block_out(const uint8_t *front, size_t front_length, size_
 size_t fascjoldi_body_check_range(const uint8_t *front, size_t front_length, size_t block, const uint64_t *values,
     size_t values_length, size_t *place);
 
-/* Lists the places at which two blocks of 1,024 numbers differ, rising, and says how many they are; 0 where a block or the room is
-   not 1,024 long. */
+/* Lists the places at which two blocks of 1,024 numbers differ, rising, and says how many they are; 0 where a block or the room
+   is not 1,024 long. */
 size_t fascjoldi_block_differing(const uint64_t *left, size_t left_length, const uint64_t *right, size_t right_length,
     uint16_t *places, size_t places_length);
 
-/* ---- The calls on a packed uint64_t body that comes in chunks. The program keeps the state, which is *width, *held and room, and lends
-   it to each call as the call before left it. A start writes all of it, also when it is refused. */
+/* ---- The calls on a packed uint64_t body that comes in chunks. The program keeps the state, which is *width, *held and room,
+   and lends it to each call as the call before left it. A start writes all of it, also when it is refused. */
 
 /* Begins a body of the width that is asked for, with nothing held; refused, the state is that of width 0. */
 size_t fascjoldi_trickle_start(size_t asked, size_t *width, size_t *held, uint8_t room[8192], size_t *place);

@@ -5,7 +5,8 @@
 pub mod of_u8 {
     extern "C" {
         #[link_name = "fascjoldi_pack_u8"]
-        pub fn pack(width: usize, values: *const u8, values_length: usize, packed: *mut u8, packed_length: usize, place: &mut usize) -> usize;
+        pub fn pack(width: usize, values: *const u8, values_length: usize, packed: *mut u8, packed_length: usize,
+            place: &mut usize) -> usize;
         #[link_name = "fascjoldi_unpack_u8"]
         pub fn unpack(width: usize, packed: *const u8, packed_length: usize, values: *mut u8, values_length: usize,
             place: &mut usize) -> usize;
@@ -30,8 +31,8 @@ pub mod of_u8 {
         pub fn undelta_pack(width: usize, packed: *const u8, packed_length: usize, base: *const u8, base_length: usize,
             values: *mut u8, values_length: usize, place: &mut usize) -> usize;
         #[link_name = "fascjoldi_for_pack_u8"]
-        pub fn for_pack(width: usize, values: *const u8, values_length: usize, reference: u8, packed: *mut u8, packed_length: usize,
-            place: &mut usize) -> usize;
+        pub fn for_pack(width: usize, values: *const u8, values_length: usize, reference: u8, packed: *mut u8,
+            packed_length: usize, place: &mut usize) -> usize;
         #[link_name = "fascjoldi_unfor_pack_u8"]
         pub fn unfor_pack(width: usize, packed: *const u8, packed_length: usize, reference: u8, values: *mut u8,
             values_length: usize, place: &mut usize) -> usize;
@@ -39,8 +40,8 @@ pub mod of_u8 {
         pub fn unpack_blocks(width: usize, blocks: usize, packed: *const u8, packed_length: usize, values: *mut u8,
             values_length: usize, place: &mut usize) -> usize;
         #[link_name = "fascjoldi_for_pack_blocks_u8"]
-        pub fn for_pack_blocks(width: usize, blocks: usize, values: *const u8, values_length: usize, reference: u8, packed: *mut u8,
-            packed_length: usize, place: &mut usize) -> usize;
+        pub fn for_pack_blocks(width: usize, blocks: usize, values: *const u8, values_length: usize, reference: u8,
+            packed: *mut u8, packed_length: usize, place: &mut usize) -> usize;
         #[link_name = "fascjoldi_decode_u8"]
         pub fn decode(dictionary: *const u8, dictionary_length: usize, indices: *const u16, indices_length: usize, output: *mut u8,
             output_length: usize, place: &mut usize) -> usize;
@@ -62,8 +63,8 @@ pub mod of_u16 {
         pub fn unpack(width: usize, packed: *const u16, packed_length: usize, values: *mut u16, values_length: usize,
             place: &mut usize) -> usize;
         #[link_name = "fascjoldi_unpack_single_u16"]
-        pub fn unpack_single(width: usize, packed: *const u16, packed_length: usize, index: usize, value: &mut u16, words: &mut u64,
-            place: &mut usize) -> usize;
+        pub fn unpack_single(width: usize, packed: *const u16, packed_length: usize, index: usize, value: &mut u16,
+            words: &mut u64, place: &mut usize) -> usize;
         #[link_name = "fascjoldi_words_at_u16"]
         pub fn words_at(width: usize, index: usize) -> u64;
         #[link_name = "fascjoldi_unpack_indices_u16"]
@@ -94,8 +95,8 @@ pub mod of_u16 {
         pub fn for_pack_blocks(width: usize, blocks: usize, values: *const u16, values_length: usize, reference: u16,
             packed: *mut u16, packed_length: usize, place: &mut usize) -> usize;
         #[link_name = "fascjoldi_decode_u16"]
-        pub fn decode(dictionary: *const u16, dictionary_length: usize, indices: *const u16, indices_length: usize, output: *mut u16,
-            output_length: usize, place: &mut usize) -> usize;
+        pub fn decode(dictionary: *const u16, dictionary_length: usize, indices: *const u16, indices_length: usize,
+            output: *mut u16, output_length: usize, place: &mut usize) -> usize;
         #[link_name = "fascjoldi_transpose_u16"]
         pub fn transpose(input: *const u16, input_length: usize, output: *mut u16, output_length: usize, place: &mut usize) -> usize;
         #[link_name = "fascjoldi_untranspose_u16"]
@@ -114,8 +115,8 @@ pub mod of_u32 {
         pub fn unpack(width: usize, packed: *const u32, packed_length: usize, values: *mut u32, values_length: usize,
             place: &mut usize) -> usize;
         #[link_name = "fascjoldi_unpack_single_u32"]
-        pub fn unpack_single(width: usize, packed: *const u32, packed_length: usize, index: usize, value: &mut u32, words: &mut u64,
-            place: &mut usize) -> usize;
+        pub fn unpack_single(width: usize, packed: *const u32, packed_length: usize, index: usize, value: &mut u32,
+            words: &mut u64, place: &mut usize) -> usize;
         #[link_name = "fascjoldi_words_at_u32"]
         pub fn words_at(width: usize, index: usize) -> u64;
         #[link_name = "fascjoldi_unpack_indices_u32"]
@@ -146,8 +147,8 @@ pub mod of_u32 {
         pub fn for_pack_blocks(width: usize, blocks: usize, values: *const u32, values_length: usize, reference: u32,
             packed: *mut u32, packed_length: usize, place: &mut usize) -> usize;
         #[link_name = "fascjoldi_decode_u32"]
-        pub fn decode(dictionary: *const u32, dictionary_length: usize, indices: *const u16, indices_length: usize, output: *mut u32,
-            output_length: usize, place: &mut usize) -> usize;
+        pub fn decode(dictionary: *const u32, dictionary_length: usize, indices: *const u16, indices_length: usize,
+            output: *mut u32, output_length: usize, place: &mut usize) -> usize;
         #[link_name = "fascjoldi_transpose_u32"]
         pub fn transpose(input: *const u32, input_length: usize, output: *mut u32, output_length: usize, place: &mut usize) -> usize;
         #[link_name = "fascjoldi_untranspose_u32"]
@@ -166,8 +167,8 @@ pub mod of_u64 {
         pub fn unpack(width: usize, packed: *const u64, packed_length: usize, values: *mut u64, values_length: usize,
             place: &mut usize) -> usize;
         #[link_name = "fascjoldi_unpack_single_u64"]
-        pub fn unpack_single(width: usize, packed: *const u64, packed_length: usize, index: usize, value: &mut u64, words: &mut u64,
-            place: &mut usize) -> usize;
+        pub fn unpack_single(width: usize, packed: *const u64, packed_length: usize, index: usize, value: &mut u64,
+            words: &mut u64, place: &mut usize) -> usize;
         #[link_name = "fascjoldi_words_at_u64"]
         pub fn words_at(width: usize, index: usize) -> u64;
         #[link_name = "fascjoldi_unpack_indices_u64"]
@@ -198,8 +199,8 @@ pub mod of_u64 {
         pub fn for_pack_blocks(width: usize, blocks: usize, values: *const u64, values_length: usize, reference: u64,
             packed: *mut u64, packed_length: usize, place: &mut usize) -> usize;
         #[link_name = "fascjoldi_decode_u64"]
-        pub fn decode(dictionary: *const u64, dictionary_length: usize, indices: *const u16, indices_length: usize, output: *mut u64,
-            output_length: usize, place: &mut usize) -> usize;
+        pub fn decode(dictionary: *const u64, dictionary_length: usize, indices: *const u16, indices_length: usize,
+            output: *mut u64, output_length: usize, place: &mut usize) -> usize;
         #[link_name = "fascjoldi_transpose_u64"]
         pub fn transpose(input: *const u64, input_length: usize, output: *mut u64, output_length: usize, place: &mut usize) -> usize;
         #[link_name = "fascjoldi_untranspose_u64"]
