@@ -20,7 +20,6 @@ impl FastLanes for u32 {}
 impl FastLanes for u64 {}
 
 /// What the call gives, or a panic that has the refusal's number and place.
-#[track_caller]
 fn done<G>(outcome: Result<G, Refused>) -> G {
     match outcome {
         Ok(gives) => gives,
