@@ -16,7 +16,8 @@
  * its sentence has it. *place is the place that goes with the number, and 0 where the list names none. The lent numbers, as *place,
  * *value, *words and *length, are written by every call, also when it is refused. A buffer, which is a pointer with a length, is
  * written only where the number is FASCJOLDI_DONE: a refused call leaves each buffer as it was. Where several numbers apply to a
- * call on blocks the lowest is given; a call on a file goes through its tests in the order of docs/FORMAT.md.
+ * call on blocks the lowest is given; a call on a file goes through its tests in the order of docs/FORMAT.md. The functions keep
+ * nothing between calls, so several threads may call them at once, each with buffers of its own.
  *
  * T stands for the bits of an element, 8, 16, 32 or 64, and LANES for 1024 / T. A packed block has LANES times its width elements.
  */
@@ -219,7 +220,7 @@ size_t fascjoldi_untranspose_u16(const uint16_t *input, size_t input_length, uin
 size_t fascjoldi_untranspose_u32(const uint32_t *input, size_t input_length, uint32_t *output, size_t output_length, size_t *place);
 size_t fascjoldi_untranspose_u64(const uint64_t *input, size_t input_length, uint64_t *output, size_t output_length, size_t *place);
 
-/* Moves the 1,024 bits of a block as the rows of its lanes lie; always answers. */
+/* Moves bit l * T + r of a block of 1,024 bits to the place of row r in lane l; always answers. */
 void fascjoldi_transpose_bits_u8(const uint64_t input[16], uint64_t output[16]);
 void fascjoldi_transpose_bits_u16(const uint64_t input[16], uint64_t output[16]);
 void fascjoldi_transpose_bits_u32(const uint64_t input[16], uint64_t output[16]);
@@ -242,8 +243,8 @@ size_t fascjoldi_file_check_canonical(const uint8_t *file, size_t file_length, s
 size_t fascjoldi_file_block_out(const uint8_t *file, size_t file_length, size_t block, uint64_t *output, size_t output_length,
     size_t *place);
 
-/* Checks a column file, and gives the number at one row and in how many packed words it stands; 2^64 - 1 words where there is no
-   such count. */
+/* Checks a column file, and gives the number at one row and in how many packed words it stands, 2^64 - 1 where there is no such
+   count; refused, the value is 0. */
 size_t fascjoldi_file_row_at(const uint8_t *file, size_t file_length, size_t row, uint64_t *value, uint64_t *words, size_t *place);
 
 /* Writes a column file of whole blocks of numbers, and says how many bytes it has; refused, the length is 0. */

@@ -70,7 +70,7 @@ pub extern "C" fn fascjoldi_file_block_out(
     hand(block_out(file, block, output), place)
 }
 
-// Checks a column file, and gives the number at one row and in how many packed words it stands; 2^64 - 1 words where there is no such count.
+// Checks a column file, and gives the number at one row and in how many packed words it stands, 2^64 - 1 where there is no such count; refused, the value is 0.
 #[no_mangle]
 pub extern "C" fn fascjoldi_file_row_at(
     file: &[u8],

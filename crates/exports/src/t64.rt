@@ -275,7 +275,7 @@ pub extern "C" fn fascjoldi_untranspose_u64(
     hand(untranspose(input, output), place)
 }
 
-// Moves the 1,024 bits of a block as the rows of its lanes lie; always answers.
+// Moves bit l * T + r of a block of 1,024 bits to the place of row r in lane l; always answers.
 #[no_mangle]
 pub extern "C" fn fascjoldi_transpose_bits_u64(input: &BitBlock, output: &mut BitBlock)
     ensures { λ _. ⌜ now (output .exit) ≡ transposeBitsOf t64 (now (input .entry)) ⌝ }
