@@ -124,70 +124,77 @@ static int same_buffers(const struct buffer *left, const struct buffer *right, s
 }
 
 /* The calls on blocks at one element size; 0 where there is no such call. */
-#define AT_SIZE(u, element)                                                                                                              \
-    static int call_##u(struct head h, struct reply *r)                                                                                  \
-    {                                                                                                                                    \
-        const element *in = (const element *)a.elements;                                                                                 \
-        const element *base = (const element *)b.elements;                                                                               \
-        const size_t *places = (const size_t *)b.elements;                                                                               \
-        const uint16_t *entries = (const uint16_t *)b.elements;                                                                          \
-        element *out = (element *)c.elements;                                                                                            \
-        element reference = (element)h.reference, value = 77;                                                                            \
-        switch (h.op) {                                                                                                                  \
-        case 0: case 27:                                                                                                                 \
-            r->number = fascjoldi_pack_##u(h.width, in, h.n_a, out, h.n_c, &r->place);                                                   \
-            return 1;                                                                                                                    \
-        case 1: case 28:                                                                                                                 \
-            r->number = fascjoldi_unpack_##u(h.width, in, h.n_a, out, h.n_c, &r->place);                                                 \
-            return 1;                                                                                                                    \
-        case 2: case 29:                                                                                                                 \
-            r->number = fascjoldi_unpack_single_##u(h.width, in, h.n_a, h.index, &value, &r->reference, &r->place);                      \
-            r->value = value;                                                                                                            \
-            return r->number != 0 || r->reference == fascjoldi_words_at_##u(h.width, h.index);                                           \
-        case 3:                                                                                                                          \
-            r->number = fascjoldi_unpack_indices_##u(h.width, in, h.n_a, places, h.n_b, out, h.n_c, &r->value, &r->place);               \
-            return 1;                                                                                                                    \
-        case 4:                                                                                                                          \
-            r->number = fascjoldi_delta_##u(in, h.n_a, base, h.n_b, out, h.n_c, &r->place);                                              \
-            return 1;                                                                                                                    \
-        case 5:                                                                                                                          \
-            r->number = fascjoldi_undelta_##u(in, h.n_a, base, h.n_b, out, h.n_c, &r->place);                                            \
-            return 1;                                                                                                                    \
-        case 6:                                                                                                                          \
-            r->number = fascjoldi_undelta_pack_##u(h.width, in, h.n_a, base, h.n_b, out, h.n_c, &r->place);                              \
-            return 1;                                                                                                                    \
-        case 7:                                                                                                                          \
-            r->number = fascjoldi_for_pack_##u(h.width, in, h.n_a, reference, out, h.n_c, &r->place);                                    \
-            return 1;                                                                                                                    \
-        case 8:                                                                                                                          \
-            r->number = fascjoldi_unfor_pack_##u(h.width, in, h.n_a, reference, out, h.n_c, &r->place);                                  \
-            return 1;                                                                                                                    \
-        case 10:                                                                                                                         \
-            r->number = fascjoldi_decode_##u(in, h.n_a, entries, h.n_b, out, h.n_c, &r->place);                                          \
-            return 1;                                                                                                                    \
-        case 11:                                                                                                                         \
-            r->number = fascjoldi_transpose_##u(in, h.n_a, out, h.n_c, &r->place);                                                       \
-            return 1;                                                                                                                    \
-        case 12:                                                                                                                         \
-            r->number = fascjoldi_untranspose_##u(in, h.n_a, out, h.n_c, &r->place);                                                     \
-            return 1;                                                                                                                    \
-        case 13:                                                                                                                         \
-            r->number = r->place = 0;                                                                                                    \
-            fascjoldi_transpose_bits_##u(a.elements, c.elements);                                                                        \
-            return h.n_a == 16 && h.n_c == 16;                                                                                           \
-        case 23:                                                                                                                         \
-            r->number = fascjoldi_unpack_within_##u(                                                                                     \
-                h.width, in, h.n_a, places, h.n_b, h.reference, out, h.n_c, &r->value, &r->index, &r->place);                            \
-            return 1;                                                                                                                    \
-        case 24:                                                                                                                         \
-            r->number = fascjoldi_unpack_blocks_##u(h.width, h.index, in, h.n_a, out, h.n_c, &r->place);                                 \
-            return 1;                                                                                                                    \
-        case 25:                                                                                                                         \
-            r->number = fascjoldi_for_pack_blocks_##u(h.width, h.index, in, h.n_a, reference, out, h.n_c, &r->place);                    \
-            return 1;                                                                                                                    \
-        default:                                                                                                                         \
-            return 0;                                                                                                                    \
-        }                                                                                                                                \
+#define AT_SIZE(u, element)                                                                                                             \
+    static int call_##u(struct head h, struct reply *r)                                                                                 \
+    {                                                                                                                                   \
+        const element *in = (const element *)a.elements;                                                                                \
+        const element *base = (const element *)b.elements;                                                                              \
+        const size_t *places = (const size_t *)b.elements;                                                                              \
+        const uint16_t *entries = (const uint16_t *)b.elements;                                                                         \
+        element *out = (element *)c.elements;                                                                                           \
+        element reference = (element)h.reference, value = 77;                                                                           \
+        switch (h.op) {                                                                                                                 \
+        case 0: case 27:                                                                                                                \
+            r->number = fascjoldi_pack_##u(h.width, in, h.n_a, out, h.n_c, &r->place);                                                  \
+            return 1;                                                                                                                   \
+        case 1: case 28:                                                                                                                \
+            r->number = fascjoldi_unpack_##u(h.width, in, h.n_a, out, h.n_c, &r->place);                                                \
+            return 1;                                                                                                                   \
+        case 2: case 29:                                                                                                                \
+            r->number = fascjoldi_unpack_single_##u(h.width, in, h.n_a, h.index, &value, &r->reference, &r->place);                     \
+            r->value = value;                                                                                                           \
+            /* What is said of the place alone has to be the same; no stream expects this number. */                                    \
+            if (r->number == 0 && r->reference != fascjoldi_words_at_##u(h.width, h.index)) {                                           \
+                r->number = 99;                                                                                                         \
+            }                                                                                                                           \
+            return 1;                                                                                                                   \
+        case 3:                                                                                                                         \
+            r->number = fascjoldi_unpack_indices_##u(h.width, in, h.n_a, places, h.n_b, out, h.n_c, &r->value, &r->place);              \
+            return 1;                                                                                                                   \
+        case 4:                                                                                                                         \
+            r->number = fascjoldi_delta_##u(in, h.n_a, base, h.n_b, out, h.n_c, &r->place);                                             \
+            return 1;                                                                                                                   \
+        case 5:                                                                                                                         \
+            r->number = fascjoldi_undelta_##u(in, h.n_a, base, h.n_b, out, h.n_c, &r->place);                                           \
+            return 1;                                                                                                                   \
+        case 6:                                                                                                                         \
+            r->number = fascjoldi_undelta_pack_##u(h.width, in, h.n_a, base, h.n_b, out, h.n_c, &r->place);                             \
+            return 1;                                                                                                                   \
+        case 7:                                                                                                                         \
+            r->number = fascjoldi_for_pack_##u(h.width, in, h.n_a, reference, out, h.n_c, &r->place);                                   \
+            return 1;                                                                                                                   \
+        case 8:                                                                                                                         \
+            r->number = fascjoldi_unfor_pack_##u(h.width, in, h.n_a, reference, out, h.n_c, &r->place);                                 \
+            return 1;                                                                                                                   \
+        case 10:                                                                                                                        \
+            r->number = fascjoldi_decode_##u(in, h.n_a, entries, h.n_b, out, h.n_c, &r->place);                                         \
+            return 1;                                                                                                                   \
+        case 11:                                                                                                                        \
+            r->number = fascjoldi_transpose_##u(in, h.n_a, out, h.n_c, &r->place);                                                      \
+            return 1;                                                                                                                   \
+        case 12:                                                                                                                        \
+            r->number = fascjoldi_untranspose_##u(in, h.n_a, out, h.n_c, &r->place);                                                    \
+            return 1;                                                                                                                   \
+        case 13:                                                                                                                        \
+            if (h.n_a != 16 || h.n_c != 16) {                                                                                           \
+                return 0;                                                                                                               \
+            }                                                                                                                           \
+            r->number = r->place = 0;                                                                                                   \
+            fascjoldi_transpose_bits_##u(a.elements, c.elements);                                                                       \
+            return 1;                                                                                                                   \
+        case 23:                                                                                                                        \
+            r->number = fascjoldi_unpack_within_##u(                                                                                    \
+                h.width, in, h.n_a, places, h.n_b, h.reference, out, h.n_c, &r->value, &r->index, &r->place);                           \
+            return 1;                                                                                                                   \
+        case 24:                                                                                                                        \
+            r->number = fascjoldi_unpack_blocks_##u(h.width, h.index, in, h.n_a, out, h.n_c, &r->place);                                \
+            return 1;                                                                                                                   \
+        case 25:                                                                                                                        \
+            r->number = fascjoldi_for_pack_blocks_##u(h.width, h.index, in, h.n_a, reference, out, h.n_c, &r->place);                   \
+            return 1;                                                                                                                   \
+        default:                                                                                                                        \
+            return 0;                                                                                                                   \
+        }                                                                                                                               \
     }
 
 AT_SIZE(u8, uint8_t)
@@ -235,9 +242,12 @@ static int call(struct head h, struct reply *r)
     size_t opened = 77;
     switch (h.op) {
     case 14:
+        if (h.t != 64 || h.n_a != 16 || h.n_c != 16) {
+            return 0;
+        }
         r->number = r->place = 0;
         fascjoldi_untranspose_bits_u64(a.elements, c.elements);
-        return h.t == 64 && h.n_a == 16 && h.n_c == 16;
+        return 1;
     case 16:
         r->number = fascjoldi_file_check(file, h.n_a, &r->place);
         return 1;
