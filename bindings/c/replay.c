@@ -76,7 +76,7 @@ static struct head head_of(const uint8_t *bytes)
     return h;
 }
 
-/* Whether the elements of a, or of c, are bytes of a file, bit blocks or numbers of one size, whatever t is. */
+/* The bytes of an element of a, of b and of c: t / 8, but where docs/CASES.md says otherwise. */
 static size_t size_a(struct head h)
 {
     switch (h.op) {
