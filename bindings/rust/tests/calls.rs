@@ -1,0 +1,142 @@
+//! The calls from Rust. What is expected comes from the documents: document 01's cases P6 to P9, a refusal for each number, and the
+//! files that document 02 writes out.
+use fascjoldi::chunks::Body;
+use fascjoldi::{files, Blocks, Refused};
+
+/// The place of row r of lane l (document 01, "Places, lanes and rows").
+fn place(r: usize, l: usize) -> usize {
+    [0, 4, 2, 6, 1, 5, 3, 7][r / 8] * 16 + r % 8 * 128 + l
+}
+
+fn refused<G>(number: usize, place: usize) -> Result<G, Refused> {
+    Err(Refused { number, place })
+}
+
+/// One block of sevens as a frame of width 0: edition 1, and edition 2.
+const SEVENS_1: [u8; 20] = [1, 0, 1, 0, 1, 0, 0, 0, 0, 0, 0, 0, 7, 0, 0, 0, 0, 0, 0, 0];
+const SEVENS_2: [u8; 36] = [
+    2, 0, 1, 0, 1, 0, 0, 0, 0, 0, 0, 0, 7, 0, 0, 0, 0, 0, 0, 0, 7, 0, 0, 0, 0, 0, 0, 0, 7, 0, 0, 0, 0, 0, 0, 0,
+];
+
+#[test]
+fn p6_and_p7() {
+    let mut values = [0u8; 1024];
+    for r in 0..8 {
+        for l in 0..128 {
+            values[place(r, l)] = r as u8;
+        }
+    }
+    let mut packed = [77; 384];
+    assert_eq!(Blocks::pack(3, &values, &mut packed), Ok(()));
+    assert_eq!([packed[0], packed[128], packed[256]], [136, 198, 250]);
+    let single = Blocks::unpack_single(3, &packed, 256).unwrap();
+    assert_eq!((single.value, single.words), (2, 2));
+    assert_eq!(u8::words_at(3, 256), Some(2));
+    assert_eq!(u8::words_at(9, 0), None);
+    let mut back = [77; 1024];
+    assert_eq!(Blocks::unpack(3, &packed, &mut back), Ok(()));
+    assert_eq!(back, values);
+}
+
+#[test]
+fn p8_and_p9() {
+    let (values, mut packed, mut back) = ([3u8; 1024], [77; 512], [77; 1024]);
+    assert_eq!(Blocks::for_pack(4, &values, 250, &mut packed), Ok(()));
+    assert_eq!(Blocks::unfor_pack(4, &packed, 250, &mut back), Ok(()));
+    assert_eq!(back, [3; 1024]);
+    assert_eq!(Blocks::for_pack(3, &values, 250, &mut packed[..384]), Ok(()));
+    assert_eq!(Blocks::unfor_pack(3, &packed[..384], 250, &mut back), Ok(()));
+    assert_eq!(back, [251; 1024]);
+    let mut rows = [6u8; 1024];
+    for l in 0..128 {
+        rows[place(0, l)] = 5;
+        rows[place(1, l)] = 7;
+    }
+    let mut differences = [77; 1024];
+    assert_eq!(Blocks::delta(&rows, &[5; 128], &mut differences), Ok(()));
+    assert_eq!([0, 1, 2].map(|r| differences[place(r, 99)]), [0, 2, 255]);
+    assert_eq!(Blocks::undelta(&differences, &[5; 128], &mut back), Ok(()));
+    assert_eq!(back, rows);
+}
+
+#[test]
+fn blocks_are_refused() {
+    let (values, mut output) = ([0u8; 1024], [77u8; 1024]);
+    assert_eq!(Blocks::pack(9, &values, &mut output), refused(1, 0));
+    assert_eq!(Blocks::pack(3, &values[1..], &mut output[..384]), refused(2, 0));
+    assert_eq!(Blocks::pack(3, &values, &mut output[..383]), refused(3, 0));
+    assert_eq!(Blocks::delta(&values, &[0; 127], &mut output), refused(4, 0));
+    assert_eq!(Blocks::unpack_indices(8, &values, &[0, 1], &mut output[..1]), refused(5, 0));
+    assert_eq!(
+        Blocks::unpack_indices(8, &values, &[0, 1023, 1024], &mut output[..3]),
+        refused(6, 2)
+    );
+    assert_eq!(Blocks::unpack_single(8, &values, 1024), refused(6, 0));
+    let mut indices = [0; 1024];
+    indices[5] = 3;
+    assert_eq!(Blocks::decode(&values[..3], &indices, &mut output), refused(7, 5));
+    assert_eq!(Blocks::decode(&[], &indices, &mut output), refused(7, 0));
+    assert_eq!(output, [77; 1024]);
+}
+
+#[test]
+fn a_file_is_written_read_and_compared() {
+    let mut values = [7u64; 1024];
+    let mut file = [77; 400];
+    assert_eq!(files::write(&values, &mut file), Ok(36));
+    assert_eq!(file[..36], SEVENS_2);
+    assert_eq!(file[36..], [77; 364]);
+    values[3] = 9;
+    assert_eq!(files::write(&values, &mut file), Ok(4 + 32 + 128 * 2));
+    let file = &file[..292];
+    assert_eq!(files::check(file), Ok(()));
+    assert_eq!(files::check_canonical(file), Ok(()));
+    let row = files::row_at(file, 3).unwrap();
+    assert_eq!((row.value, row.words), (9, Some(1)));
+    let (mut left, mut right, mut places) = ([0; 1024], [0; 1024], [0; 1024]);
+    assert_eq!(files::block_out(&SEVENS_1, 0, &mut left), Ok(()));
+    assert_eq!(files::block_out(file, 0, &mut right), Ok(()));
+    assert_eq!(right, values);
+    assert_eq!(files::differing(&left, &right, &mut places), 1);
+    assert_eq!((places[0], left[3], right[3]), (3, 7, 9));
+    let found = files::search(file, 8, 10, &mut left).unwrap();
+    assert_eq!((found.rows, found.opened, left[0]), (1, 1, 3));
+    let front = &file[..files::front_length(&file[..4])];
+    assert_eq!(files::front_check(front, file.len()), Ok(()));
+    let entry = files::entry(front, 0);
+    assert_eq!(
+        (entry.kind, entry.width, entry.zero, entry.length, entry.reference),
+        (1, 2, 0, 256, 7)
+    );
+    assert_eq!((files::range(front, 0).smallest, files::range(front, 0).largest), (7, 9));
+    assert_eq!(files::body_block_out(front, 0, &file[36..], &mut left), Ok(()));
+    assert_eq!(left, values);
+}
+
+#[test]
+fn files_are_refused() {
+    let mut output = [77; 1024];
+    assert_eq!(files::check(&SEVENS_1[..3]), refused(8, 0));
+    assert_eq!(files::check(&[3, 0, 0, 0]), refused(9, 0));
+    assert_eq!(files::check(&[&SEVENS_1[..], &[0]].concat()), refused(11, 0));
+    assert_eq!(files::block_out(&SEVENS_1, 1, &mut output), refused(12, 0));
+    assert_eq!(output, [77; 1024]);
+    assert_eq!(files::write(&[7; 1024], &mut [0; 35]), refused(14, 0));
+    let mut file = SEVENS_2;
+    file[28] = 8;
+    assert_eq!(files::check(&file), refused(15, 0));
+    file[28] = 6;
+    assert_eq!(files::check(&file), refused(10, 0));
+}
+
+#[test]
+fn a_body_comes_in_chunks() {
+    let (mut body, mut output) = (Body::start(1).unwrap(), [77; 1024]);
+    assert_eq!(body.feed(&[255; 127]), 127);
+    assert_eq!(body.ask(&mut output), refused(16, 127));
+    assert_eq!(output, [77; 1024]);
+    assert_eq!(body.feed(&[255; 10]), 1);
+    assert_eq!(body.ask(&mut output), Ok(()));
+    assert_eq!(output, [1; 1024]);
+    assert_eq!(Body::start(65).err(), Some(Refused { number: 1, place: 0 }));
+}

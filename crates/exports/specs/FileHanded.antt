@@ -1,0 +1,49 @@
+-- How what a call on a column file gives crosses to a program in C or in Rust, as `Handed` has it for the calls on blocks.
+-- Assumes nothing.
+use mathlib.Core.Path.{_≡_}
+use Prim.Native.Nat.{ℕ}
+use Rattle.contents.specs.declared.Entry.{Entry}
+use Rattle.contents.specs.declared.FileAnswer.{FileAnswer}
+use Rattle.contents.specs.declared.Range.{Range}
+use Rattle.contents.specs.Answers.{numberOf, placeOf}
+use Rattle.files.specs.declared.Row.{Row}
+use Rattle.files.specs.Rows as row
+use Rattle.writer.specs.declared.Written.{Written}
+use Rattle.writer.specs.Writer as writer
+use Rattle.search.specs.declared.Found.{Found}
+use Rattle.search.specs.Search as search
+
+-- The number and the place that are handed over are those of this answer.
+pub record FileHanded (answer : FileAnswer) (number place : ℕ) : Type 0 where
+  pub its-number : number ≡ numberOf answer
+  pub its-place : place ≡ placeOf answer
+
+-- Of the lookup of a row the value and its count of words are handed over too.
+pub record RowHanded (found : Row) (number value words place : ℕ) : Type 0 where
+  pub its-answer : FileHanded (row.answerOf found) number place
+  pub its-value : value ≡ row.valueOf found
+  pub its-words : words ≡ row.wordsOf found
+
+-- Of the writing of a file it is its length.
+pub record WrittenHanded (written : Written) (number length place : ℕ) : Type 0 where
+  pub its-answer : FileHanded (writer.answerOf written) number place
+  pub its-length : length ≡ writer.lengthOf written
+
+-- Of a search it is how many rows were found, and how many blocks were opened for it.
+pub record FoundHanded (result : Found) (number found opened place : ℕ) : Type 0 where
+  pub its-answer : FileHanded (search.answerOf result) number place
+  pub its-found : found ≡ search.rowsFound result
+  pub its-opened : opened ≡ search.blocksOpened result
+
+-- An entry is handed over field by field.
+pub record EntryHanded (e : Entry) (kind width zero length reference : ℕ) : Type 0 where
+  pub its-kind : kind ≡ e .kind
+  pub its-width : width ≡ e .width
+  pub its-zero : zero ≡ e .zero
+  pub its-length : length ≡ e .length
+  pub its-reference : reference ≡ e .reference
+
+-- And so is a range.
+pub record RangeHanded (r : Range) (smallest largest : ℕ) : Type 0 where
+  pub its-smallest : smallest ≡ r .smallest
+  pub its-largest : largest ≡ r .largest

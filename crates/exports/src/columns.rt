@@ -1,0 +1,324 @@
+// The calls on column files of u64 numbers, for programs in C and in Rust. The first ones take a whole file. A program that holds only the
+// front of a file, its contents, and one body at a time asks the ones that come after them.
+use access::Words;
+use compare::blocks_in_both;
+use compare::check_block;
+use compare::differing;
+use compare::front_length;
+use compare::row_count;
+use compare::same_range;
+use contents::Entry;
+use contents::FileAnswer;
+use contents::Range;
+use contents::contents_length;
+use contents::count;
+use contents::edition;
+use contents::entry_or;
+use contents::range_or;
+use files::Row;
+use files::block_out;
+use files::row_at;
+use rewrite::rewrite;
+use search::Found;
+use search::search;
+use writer::Written;
+use writer::write;
+ghost use mathlib.Core.Path.{_≡_};
+ghost use Prim.Native.Nat.{_*_, min};
+ghost use lib.ListN.{length};
+ghost use Rattle.places.specs.Tab.{over};
+ghost use Rattle.contents.specs.Answers.{fileAnswer};
+ghost use Rattle.contents.specs.Contents.{contentsSize, contentsTests, editionOr, countOr, entryOr, rangeOr};
+ghost use Rattle.bodies.specs.Bodies.{blockTests as bodyTests, blockLeaves as bodyLeaves};
+ghost use Rattle.files.specs.Files.{fileTests, blockTests, blockLeaves};
+ghost use Rattle.files.specs.Rows.{rowOf};
+ghost use Rattle.writer.specs.Writer.{writtenOf, fileLeaves};
+ghost use Rattle.search.specs.Search.{foundOf, searchLeaves};
+ghost use Rattle.rewrite.specs.Rewrite.{rewrittenOf, rewriteLeaves};
+ghost use Rattle.canonical.specs.Canonical.{canonicalTests};
+ghost use Rattle.compare.specs.Changes.{listedOf};
+ghost use Rattle.compare.specs.Steps.{frontSize, inBlock, rangeAnswer, sameRange};
+ghost use Rattle.exports.specs.FileHanded.{FileHanded, RowHanded, WrittenHanded, FoundHanded, EntryHanded, RangeHanded};
+
+// Checks a column file, whole.
+#[no_mangle]
+pub extern "C" fn fascjoldi_file_check(file: &[u8], place: &mut usize) -> usize
+    ensures { λ r. ⌜ FileHanded (fileAnswer (fileTests (now (file .entry)))) r (now (place .exit)) ⌝ }
+{
+    hand(files::check(file), place)
+}
+
+// Checks a column file, and says whether its bytes are what our writer would have written.
+#[no_mangle]
+pub extern "C" fn fascjoldi_file_check_canonical(file: &[u8], place: &mut usize) -> usize
+    ensures { λ r. ⌜ FileHanded (fileAnswer (canonicalTests (now (file .entry)))) r (now (place .exit)) ⌝ }
+{
+    hand(canonical::check(file), place)
+}
+
+// Checks a column file, and lays down the 1,024 numbers of one of its blocks.
+#[no_mangle]
+pub extern "C" fn fascjoldi_file_block_out(
+    file: &[u8],
+    block: usize,
+    output: &mut [u64],
+    place: &mut usize,
+) -> usize
+    ensures { λ r. ⌜ FileHanded (fileAnswer (blockTests (now (file .entry)) block (now (output .entry)))) r (now (place .exit)) ⌝ }
+    ensures { λ _. ⌜ now (output .exit) ≡ blockLeaves (now (file .entry)) block (now (output .entry)) ⌝ }
+{
+    hand(block_out(file, block, output), place)
+}
+
+// Checks a column file, and gives the number at one row and in how many packed words it stands, 2^64 - 1 where there is no such count; refused, the value is 0.
+#[no_mangle]
+pub extern "C" fn fascjoldi_file_row_at(
+    file: &[u8],
+    row: usize,
+    value: &mut u64,
+    words: &mut Words,
+    place: &mut usize,
+) -> usize
+    ensures { λ r. ⌜ RowHanded (rowOf (now (file .entry)) row) r (now (value .exit)) (now (words .exit)) (now (place .exit)) ⌝ }
+{
+    hand_row(row_at(file, row), value, words, place)
+}
+
+// Writes a column file of whole blocks of numbers, and says how many bytes it has; refused, the length is 0.
+#[no_mangle]
+pub extern "C" fn fascjoldi_file_write(
+    values: &[u64],
+    output: &mut [u8],
+    length: &mut usize,
+    place: &mut usize,
+) -> usize
+    ensures { λ r. ⌜ WrittenHanded (writtenOf (now (values .entry)) (now (output .entry))) r (now (length .exit)) (now (place .exit)) ⌝ }
+    ensures { λ _. ⌜ now (output .exit) ≡ fileLeaves (now (values .entry)) (now (output .entry)) ⌝ }
+{
+    hand_written(write(values, output), length, place)
+}
+
+// Writes the rows of any readable column file as our writer would, and says how many bytes the new file has; refused, the length is 0.
+#[no_mangle]
+pub extern "C" fn fascjoldi_file_rewrite(
+    file: &[u8],
+    output: &mut [u8],
+    length: &mut usize,
+    place: &mut usize,
+) -> usize
+    ensures { λ r. ⌜ WrittenHanded (rewrittenOf (now (file .entry)) (now (output .entry))) r (now (length .exit)) (now (place .exit)) ⌝ }
+    ensures { λ _. ⌜ now (output .exit) ≡ rewriteLeaves (now (file .entry)) (now (output .entry)) ⌝ }
+{
+    hand_written(rewrite(file, output), length, place)
+}
+
+// Lists the rows whose number lies between two bounds, both included, and says how many they are and how many blocks were opened; refused, both are 0.
+#[no_mangle]
+pub extern "C" fn fascjoldi_file_search(
+    file: &[u8],
+    low: u64,
+    high: u64,
+    rows: &mut [u64],
+    found: &mut usize,
+    opened: &mut usize,
+    place: &mut usize,
+) -> usize
+    ensures { λ r. ⌜ FoundHanded (foundOf (now (file .entry)) low high (now (rows .entry))) r (now (found .exit)) (now (opened .exit)) (now (place .exit)) ⌝ }
+    ensures { λ _. ⌜ now (rows .exit) ≡ searchLeaves (now (file .entry)) low high (now (rows .entry)) ⌝ }
+{
+    hand_found(search(file, low, high, rows), found, opened, place)
+}
+
+// Says how many bytes of a file are its front, by its first four; 4 where these say contents of more than 8,196 bytes.
+#[no_mangle]
+pub extern "C" fn fascjoldi_front_length(head: &[u8]) -> usize
+    ensures { λ r. ⌜ r ≡ frontSize (now (head .entry)) ⌝ }
+{
+    front_length(head)
+}
+
+// Checks the contents of a file of so many bytes; the bodies are not looked at.
+#[no_mangle]
+pub extern "C" fn fascjoldi_front_check(front: &[u8], size: usize, place: &mut usize) -> usize
+    ensures { λ r. ⌜ FileHanded (fileAnswer (contentsTests (now (front .entry)) size)) r (now (place .exit)) ⌝ }
+{
+    hand(contents::check(front, size), place)
+}
+
+// Says the edition of a file, by its front; 0 where that is too short.
+#[no_mangle]
+pub extern "C" fn fascjoldi_front_edition(front: &[u8]) -> usize
+    ensures { λ r. ⌜ r ≡ editionOr (now (front .entry)) ⌝ }
+{
+    edition(front)
+}
+
+// Says how many blocks a file has, by its front; 0 where that is too short.
+#[no_mangle]
+pub extern "C" fn fascjoldi_front_count(front: &[u8]) -> usize
+    ensures { λ r. ⌜ r ≡ countOr (now (front .entry)) ⌝ }
+{
+    count(front)
+}
+
+// Says how many rows a file has, by its front.
+#[no_mangle]
+pub extern "C" fn fascjoldi_front_row_count(front: &[u8]) -> u64
+    ensures { λ r. ⌜ r ≡ countOr (now (front .entry)) * 1024 ⌝ }
+{
+    row_count(front)
+}
+
+// Says where the first body of a file begins, by its front.
+#[no_mangle]
+pub extern "C" fn fascjoldi_front_contents_length(front: &[u8]) -> usize
+    ensures { λ r. ⌜ r ≡ contentsSize (editionOr (now (front .entry))) (countOr (now (front .entry))) ⌝ }
+{
+    contents_length(front)
+}
+
+// Gives what the contents say of a block: its kind, its width, the two bytes that are to be 0, the bytes of its body, and its reference.
+#[no_mangle]
+pub extern "C" fn fascjoldi_front_entry(
+    front: &[u8],
+    block: usize,
+    kind: &mut u8,
+    width: &mut u8,
+    zero: &mut u16,
+    length: &mut u32,
+    reference: &mut u64,
+)
+    ensures { λ _. ⌜ EntryHanded (entryOr (now (front .entry)) block) (now (kind .exit)) (now (width .exit)) (now (zero .exit)) (now (length .exit)) (now (reference .exit)) ⌝ }
+{
+    hand_entry(entry_or(front, block), kind, width, zero, length, reference);
+}
+
+// Gives the smallest and the largest number that the contents say of a block; 0 and 2^64 - 1 where they say none.
+#[no_mangle]
+pub extern "C" fn fascjoldi_front_range(
+    front: &[u8],
+    block: usize,
+    smallest: &mut u64,
+    largest: &mut u64,
+)
+    ensures { λ _. ⌜ RangeHanded (rangeOr (now (front .entry)) block) (now (smallest .exit)) (now (largest .exit)) ⌝ }
+{
+    hand_range(range_or(front, block), smallest, largest);
+}
+
+// Says whether the fronts of two files say the same of the smallest and the largest number of a block.
+#[no_mangle]
+pub extern "C" fn fascjoldi_front_same_range(left: &[u8], right: &[u8], block: usize) -> bool
+    ensures { λ r. ⌜ r ≡ sameRange (now (left .entry)) (now (right .entry)) block ⌝ }
+{
+    same_range(left, right, block)
+}
+
+// Says how many blocks are in both of two files, by their fronts.
+#[no_mangle]
+pub extern "C" fn fascjoldi_front_blocks_in_both(left: &[u8], right: &[u8]) -> u16
+    ensures { λ r. ⌜ r ≡ min (countOr (now (left .entry))) (countOr (now (right .entry))) ⌝ }
+{
+    blocks_in_both(left, right)
+}
+
+// Checks one body against the contents, and lays down its 1,024 numbers.
+#[no_mangle]
+pub extern "C" fn fascjoldi_body_block_out(
+    front: &[u8],
+    block: usize,
+    body: &[u8],
+    output: &mut [u64],
+    place: &mut usize,
+) -> usize
+    ensures { λ r. ⌜ FileHanded (inBlock block (fileAnswer (bodyTests (entryOr (now (front .entry)) block) (now (body .entry)) (now (output .entry))))) r (now (place .exit)) ⌝ }
+    ensures { λ _. ⌜ now (output .exit) ≡ bodyLeaves (entryOr (now (front .entry)) block) (now (body .entry)) (now (output .entry)) ⌝ }
+{
+    hand(compare::block_of(front, block, body, output), place)
+}
+
+// Checks the smallest and the largest of a block's numbers, which were laid down, against what the contents say.
+#[no_mangle]
+pub extern "C" fn fascjoldi_body_check_range(
+    front: &[u8],
+    block: usize,
+    values: &[u64],
+    place: &mut usize,
+) -> usize
+    ensures { λ r. ⌜ FileHanded (rangeAnswer (now (front .entry)) block (now (values .entry))) r (now (place .exit)) ⌝ }
+{
+    hand(check_block(front, block, values), place)
+}
+
+// Lists the places at which two blocks of 1,024 numbers differ, rising, and says how many they are; 0 where a block or the room is not 1,024 long.
+#[no_mangle]
+pub extern "C" fn fascjoldi_block_differing(
+    left: &[u64],
+    right: &[u64],
+    places: &mut [u16],
+) -> usize
+    ensures { λ r. ⌜ r ≡ length (listedOf (now (left .entry)) (now (right .entry)) (now (places .entry))) ⌝ }
+    ensures { λ _. ⌜ now (places .exit) ≡ over 0 (listedOf (now (left .entry)) (now (right .entry)) (now (places .entry))) (now (places .entry)) ⌝ }
+{
+    differing(left, right, places)
+}
+
+// Hands the answer of a call on a file over: its place through the lent number, and its number as the result.
+fn hand(answer: FileAnswer, place: &mut usize) -> usize
+    ensures { λ r. ⌜ FileHanded answer r (now (place .exit)) ⌝ }
+{
+    *place = answer.place();
+    answer.number()
+}
+
+// Hands over what the lookup of a row gives.
+fn hand_row(row: Row, value: &mut u64, words: &mut Words, place: &mut usize) -> usize
+    ensures { λ r. ⌜ RowHanded row r (now (value .exit)) (now (words .exit)) (now (place .exit)) ⌝ }
+{
+    *value = row.value();
+    *words = row.words();
+    hand(row.answer(), place)
+}
+
+// Hands over what the writing of a file gives.
+fn hand_written(written: Written, length: &mut usize, place: &mut usize) -> usize
+    ensures { λ r. ⌜ WrittenHanded written r (now (length .exit)) (now (place .exit)) ⌝ }
+{
+    *length = written.length();
+    hand(written.answer(), place)
+}
+
+// Hands over what a search gives.
+fn hand_found(result: Found, found: &mut usize, opened: &mut usize, place: &mut usize) -> usize
+    ensures { λ r. ⌜ FoundHanded result r (now (found .exit)) (now (opened .exit)) (now (place .exit)) ⌝ }
+{
+    *found = result.rows();
+    *opened = result.opened();
+    hand(result.answer(), place)
+}
+
+// Hands over an entry.
+fn hand_entry(
+    e: Entry,
+    kind: &mut u8,
+    width: &mut u8,
+    zero: &mut u16,
+    length: &mut u32,
+    reference: &mut u64,
+)
+    ensures { λ _. ⌜ EntryHanded e (now (kind .exit)) (now (width .exit)) (now (zero .exit)) (now (length .exit)) (now (reference .exit)) ⌝ }
+{
+    *kind = e.kind;
+    *width = e.width;
+    *zero = e.zero;
+    *length = e.length;
+    *reference = e.reference;
+}
+
+// Hands over a range.
+fn hand_range(range: Range, smallest: &mut u64, largest: &mut u64)
+    ensures { λ _. ⌜ RangeHanded range (now (smallest .exit)) (now (largest .exit)) ⌝ }
+{
+    *smallest = range.smallest;
+    *largest = range.largest;
+}
