@@ -89,12 +89,12 @@ fn of_entries(request: Request) -> bool {
     request.op == 16 || (request.op == 20 && request.width == 0)
 }
 
-fn is_second(request: Request) -> bool {
+pub fn is_second(request: Request) -> bool {
     request.step != 0
 }
 
 // Where entry i begins.
-fn entry_at(request: Request, i: usize) -> usize
+pub fn entry_at(request: Request, i: usize) -> usize
     requires { ⌜ i < 256 ⌝ }
     ensures { λ r. ⌜ r < 8196 ⌝ }
 {
@@ -113,7 +113,7 @@ fn all_entries(request: Request) -> usize {
 }
 
 // The length of the block's body.
-fn body(request: Request) -> usize
+pub fn body(request: Request) -> usize
     ensures { λ r. ⌜ r < 65536 ⌝ }
 {
     if 256 <= request.width {

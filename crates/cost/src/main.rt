@@ -2,7 +2,7 @@
 //
 // On standard input stands a request of eight bytes:
 //
-//     op        the call, numbered as in docs/CASES.md; 255 is a turn that makes no call
+//     op        the call, numbered as in docs/CASES.md; 240 to 244 are whole jobs, see jobs, and 255 is a turn that makes no call
 //     t         the element size: 8, 16, 32 or 64
 //     width     the width, for the calls that take one
 //     start     the first value of the input block, and of a drawer also how many blocks there are; for the calls on a column file
@@ -15,13 +15,15 @@
 // and all that a call takes is known at run time only.
 //
 // Here the request is read and the line is printed. The modules t8, t16, t32 and t64 make the calls, bit_blocks those on bit blocks,
-// column_files, column_writes and column_rewrites those on column files, trickles those on a body that trickles in, and element turns
+// column_files, column_writes and column_rewrites those on column files, trickles those on a body that trickles in, jobs
+// makes several for a whole job, and element turns
 // bytes into elements and these into numbers.
 mod bit_blocks;
 mod column_files;
 mod column_rewrites;
 mod column_writes;
 mod element;
+mod jobs;
 mod t16;
 mod t32;
 mod t64;
@@ -109,6 +111,9 @@ fn run(request: Request) -> Outcome {
     }
     if op == 26 {
         return trickles::run(request);
+    }
+    if 240 <= op && op <= 244 {
+        return jobs::run(request);
     }
     let t = request.t;
     match t {
