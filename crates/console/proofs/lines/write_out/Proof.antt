@@ -1,11 +1,11 @@
--- `changes::print::write_out` writes a part of the buffer.
+-- `console::lines::write_out` writes a part of the buffer.
 -- Assumes nothing.
 use mathlib.Core.Path.{sym}
 use native.Mathlib.Omega.{arith}
 use lib.Seq.{length-take-le}
 use borrow.Author.Needs.{needs}
-use Rattle.changes.proofs.print.write_out.Statement.{statement}
-use Rattle.changes.proofs.print.write_out.Tie as tie
+use Rattle.console.proofs.lines.write_out.Statement.{statement}
+use Rattle.console.proofs.lines.write_out.Tie as tie
 
 slice-aggregate-write-all : tie.Need-slice-aggregate-write-all
 slice-aggregate-write-all c = sym (length-take-le _ _ (omega arith))

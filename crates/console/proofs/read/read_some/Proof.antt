@@ -1,10 +1,10 @@
--- `changes::read::read_some` reads at most what is asked.
+-- `console::read::read_some` reads at most what is asked.
 -- Assumes nothing.
 use mathlib.Core.Path.{_≡_}
 use lib.ListN.{length}
 use borrow.Author.Needs.{needs}
-use Rattle.changes.proofs.read.read_some.Statement.{statement}
-use Rattle.changes.proofs.read.read_some.Tie as tie
+use Rattle.console.proofs.read.read_some.Statement.{statement}
+use Rattle.console.proofs.read.read_some.Tie as tie
 
 abbrev Inv-loop : tie.InvT-loop
 Inv-loop fd at part₀ turns₀ part turns = length part ≡ length part₀

@@ -1,4 +1,4 @@
--- `changes::read::read_body` reads into a part of the room.
+-- `console::read::read_body` reads into a part of the room.
 -- Assumes nothing.
 use mathlib.Core.Path.{sym}
 use native.Mathlib.Omega.{arith}
@@ -6,8 +6,8 @@ use lib.ListN.{length-take}
 use lib.ListN.{length-take}
 use lib.Seq.{length-take-le}
 use borrow.Author.Needs.{needs}
-use Rattle.changes.proofs.read.read_body.Statement.{statement}
-use Rattle.changes.proofs.read.read_body.Tie as tie
+use Rattle.console.proofs.read.read_body.Statement.{statement}
+use Rattle.console.proofs.read.read_body.Tie as tie
 
 least-requires : tie.Need-least-requires
 least-requires c κs = search needs

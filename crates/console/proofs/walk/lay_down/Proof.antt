@@ -1,11 +1,11 @@
--- `changes::lay_down` lends what was read of a body.
+-- `console::walk::lay_down` lends what was read of a body.
 -- Assumes nothing.
 use mathlib.Core.Path.{sym}
 use native.Mathlib.Omega.{arith}
 use lib.Seq.{length-take-le}
 use borrow.Author.Needs.{needs}
-use Rattle.changes.proofs.lay_down.Statement.{statement}
-use Rattle.changes.proofs.lay_down.Tie as tie
+use Rattle.console.proofs.walk.lay_down.Statement.{statement}
+use Rattle.console.proofs.walk.lay_down.Tie as tie
 
 entry-or-requires : tie.Need-entry-or-requires
 entry-or-requires c κs = search needs

@@ -1,11 +1,11 @@
--- `changes::print::put_text` stays within the buffer.
+-- `console::lines::put_text` stays within the buffer.
 -- Assumes nothing.
 use mathlib.Core.Path.{_≡_}
 use Prim.Native.Nat.{_-_}
 use lib.ListN.{length}
 use borrow.Author.Needs.{needs}
-use Rattle.changes.proofs.print.put_text.Statement.{statement}
-use Rattle.changes.proofs.print.put_text.Tie as tie
+use Rattle.console.proofs.lines.put_text.Statement.{statement}
+use Rattle.console.proofs.lines.put_text.Tie as tie
 
 abbrev Inv-loop : tie.InvT-loop
 Inv-loop text out₀ from at₀ i₀ out at i = length out ≡ length out₀

@@ -1,11 +1,11 @@
--- `changes::read::read_at` reads at most what is asked, and ends where a read gives nothing.
+-- `console::read::read_at` reads at most what is asked, and ends where a read gives nothing.
 -- Assumes nothing.
 use mathlib.Core.Path.{_≡_}
 use Prim.Native.Nat.{_-_, _≤_}
 use lib.ListN.{length}
 use borrow.Author.Needs.{needs}
-use Rattle.changes.proofs.read.read_at.Statement.{statement}
-use Rattle.changes.proofs.read.read_at.Tie as tie
+use Rattle.console.proofs.read.read_at.Statement.{statement}
+use Rattle.console.proofs.read.read_at.Tie as tie
 
 abbrev Inv-loop : tie.InvT-loop
 Inv-loop fd at part₀ done₀ part done = (length part ≡ length part₀) × (done ≤ length part₀)

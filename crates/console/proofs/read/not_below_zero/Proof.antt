@@ -1,4 +1,4 @@
--- `changes::read::not_below_zero` meets its contract: an i64 that is not below 0 fits a usize.
+-- `console::read::not_below_zero` meets its contract: an i64 that is not below 0 fits a usize.
 -- Assumes nothing.
 use mathlib.Core.Bool.{Bool, false, not}
 use mathlib.Core.Path.{_≡_, sym, subst}
@@ -11,8 +11,8 @@ use mir.Facts.{toZ-ofZ}
 use mir.Syntax.{w64}
 use mir.Val.{toZ, ofZ}
 use borrow.Author.Needs.{needs}
-use Rattle.changes.proofs.read.not_below_zero.Statement.{statement}
-use Rattle.changes.proofs.read.not_below_zero.Tie as tie
+use Rattle.console.proofs.read.not_below_zero.Statement.{statement}
+use Rattle.console.proofs.read.not_below_zero.Tie as tie
 
 returns : tie.Need-returns
 returns c = search needs

@@ -1,4 +1,4 @@
--- `changes::check_file` ends behind the last body, and lends what was read of each.
+-- `console::walk::check_file` ends behind the last body, and lends what was read of each.
 -- Assumes nothing.
 use mathlib.Core.Path.{_≡_, sym}
 use Prim.Native.Nat.{_-_}
@@ -6,8 +6,8 @@ use native.Mathlib.Omega.{arith}
 use lib.ListN.{length}
 use lib.Seq.{length-take-le}
 use borrow.Author.Needs.{needs}
-use Rattle.changes.proofs.check_file.Statement.{statement}
-use Rattle.changes.proofs.check_file.Tie as tie
+use Rattle.console.proofs.walk.check_file.Statement.{statement}
+use Rattle.console.proofs.walk.check_file.Tie as tie
 
 abbrev Inv-loop : tie.InvT-loop
 Inv-loop fd front body₀ answer₀ n at₀ i₀ body answer at i = length body ≡ length body₀
