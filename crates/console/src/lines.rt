@@ -77,8 +77,13 @@ pub fn write_if_full(line: usize, out: &[u8], at: usize) -> usize {
 
 // Writes what is gathered; whether that went well, and every write before it.
 pub fn write_out(out: &[u8], at: usize) -> bool {
+    write_to(STDOUT_FILENO, out, at)
+}
+
+// The same to any open file.
+pub fn write_to(fd: i32, out: &[u8], at: usize) -> bool {
     if at <= out.len() {
-        return io::write_all(STDOUT_FILENO, &out[..at]);
+        return io::write_all(fd, &out[..at]);
     }
     false
 }

@@ -63,7 +63,7 @@ pub fn next_start(at: usize, long: u32) -> usize {
 
 // Reads into all of part what stands from `at` on in the file, and says how many bytes are there. It goes on after a read that
 // gave fewer bytes than asked, and stops at the end of the file or where a read fails.
-fn read_at(fd: i32, at: usize, part: &mut [u8]) -> usize
+pub fn read_at(fd: i32, at: usize, part: &mut [u8]) -> usize
     ensures { λ r. ⌜ r ≤ length (now (part .entry)) ⌝ }
 {
     if 0x4000_0000_0000_0000 <= at {

@@ -1,13 +1,13 @@
 // A file gone through body by body, by a program that holds its contents and one body.
+use crate::read::length_of;
+use crate::read::next_start;
+use crate::read::read_body;
 use compare::is_open;
 use compare::step;
 use contents::FileAnswer;
 use contents::contents_length;
 use contents::count;
 use contents::entry_or;
-use crate::read::length_of;
-use crate::read::next_start;
-use crate::read::read_body;
 
 // The answer to a file whose contents are in `front`, body by body.
 pub fn check_file(fd: i32, front: &[u8], body: &mut [u8]) -> FileAnswer {

@@ -1,7 +1,7 @@
 -- What is said of a block to a person.
 -- Assumes nothing.
 use mathlib.Core.List.{List}
-use Prim.Native.Nat.{ℕ, _+_, _*_, _/_}
+use Prim.Native.Nat.{ℕ, _+_, _*_, _-_, _/_, min}
 use Rattle.contents.specs.declared.Entry.{Entry}
 use Rattle.runs.specs.Highest.{highestOf}
 use Rattle.bodies.specs.Ranges.{lowestOf}
@@ -25,3 +25,7 @@ thousandthsOf bytes rows = bytes * 1000 / rows
 -- The marks of a width: a mark for each four bits that are begun.
 abbrev pub marksOf : (width : ℕ) → ℕ
 marksOf width = (width + 3) / 4
+
+-- The place of block i at which a row stands, and the nearest one where it stands in another block.
+abbrev pub placeIn : (row i : ℕ) → ℕ
+placeIn row i = min (row - i * 1024) 1024

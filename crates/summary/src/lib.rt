@@ -5,7 +5,7 @@ use bodies::range_of;
 use contents::entry_or;
 ghost use mathlib.Core.Path.{_≡_};
 ghost use Rattle.contents.specs.Contents.{entryOr};
-ghost use Rattle.summary.specs.Summary.{summaryOf, thousandthsOf, marksOf};
+ghost use Rattle.summary.specs.Summary.{summaryOf, thousandthsOf, marksOf, placeIn};
 
 // A block in a line.
 pub struct Summary {
@@ -49,4 +49,19 @@ pub fn marks(width: u8) -> usize
     ensures { λ r. ⌜ r ≡ marksOf width ⌝ }
 {
     (width as usize + 3) / 4
+}
+
+// The place of block i at which a row stands: 0 where it stands in a block before it, and 1,024 where it stands in one behind it. So of the
+// rows from a to before b block i has those from the place of a to before the place of b.
+pub fn place_in(row: u64, i: usize) -> usize
+    ensures { λ r. ⌜ r ≡ placeIn row i ⌝ }
+{
+    let block = (row / 1024) as usize;
+    if block < i {
+        return 0;
+    }
+    if i < block {
+        return 1024;
+    }
+    (row % 1024) as usize
 }
