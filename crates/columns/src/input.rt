@@ -36,16 +36,7 @@ struct Input {
     place: usize,
 }
 
-pub fn write() -> u8 {
-    let mut values = [0u64; 262_144];
-    lend_values(&mut values)
-}
-
-fn lend_values(values: &mut [u64; 262_144]) -> u8 {
-    with_room(values)
-}
-
-fn with_room(values: &mut [u64]) -> u8 {
+pub fn write(values: &mut [u64], output: &mut [u8]) -> u8 {
     let mut line = [0u8; 64];
     let mut chunk = [0u8; 65536];
     let input = take_all(&mut line, &mut chunk, values);
@@ -56,7 +47,7 @@ fn with_room(values: &mut [u64]) -> u8 {
     if n % 1024 != 0 {
         return missing(n as u64, (1024 - n % 1024) as u64);
     }
-    write_numbers(n, values)
+    write_numbers(n, values, output)
 }
 
 // Reads to the end of the input. A proved loop has to end, so it counts its turns down from a number that no input uses up.
@@ -237,24 +228,14 @@ fn put_missing(n: u64, more: u64, line: &mut [u8]) -> u8 {
 
 // ---- the file
 
-fn write_numbers(n: usize, values: &[u64]) -> u8 {
+fn write_numbers(n: usize, values: &[u64], output: &mut [u8]) -> u8 {
     if values.len() < n {
         return 2;
     }
-    write_part(&values[..n])
+    write_part(&values[..n], output)
 }
 
-// The longest file that our writer gives has 4 + 8,224 · 256 bytes.
-fn write_part(values: &[u64]) -> u8 {
-    let mut output = [0u8; 2_105_348];
-    lend_output(values, &mut output)
-}
-
-fn lend_output(values: &[u64], output: &mut [u8; 2_105_348]) -> u8 {
-    write_to_output(values, output)
-}
-
-fn write_to_output(values: &[u64], output: &mut [u8]) -> u8 {
+fn write_part(values: &[u64], output: &mut [u8]) -> u8 {
     let written = writer::write(values, output);
     match written {
         Written::Length(n) => finished(write_out(output, n)),

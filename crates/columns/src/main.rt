@@ -38,12 +38,33 @@ pub const CANONICAL: u8 = 7;
 
 pub const WRITE: u8 = 8;
 
+// Room for the longest file that is readable (edition 1, 256 run blocks of 1,024 values), for the rows or the numbers of a file, and for the
+// longest file that our writer gives. All of it together is less than the eight million bytes that a program's stack has, and it is made here,
+// once: the compiler is free to put what functions make for themselves side by side.
+const FILE: usize = 2_625_540;
+
+const NUMBERS: usize = 262_144;
+
+const OUTPUT: usize = 2_105_348;
+
 fn main() {
+    let mut file = [0u8; FILE];
+    let mut numbers = [0u64; NUMBERS];
+    let mut output = [0u8; OUTPUT];
+    lend(&mut file, &mut numbers, &mut output);
+}
+
+fn lend(file: &mut [u8; FILE], numbers: &mut [u64; NUMBERS], output: &mut [u8; OUTPUT]) {
+    commands(file, numbers, output);
+}
+
+// Does one command after the other.
+fn commands(file: &mut [u8], numbers: &mut [u64], output: &mut [u8]) {
     let n = os::arg_count();
     let mut i = 1;
     while i < n {
         let end = command_end(i, n);
-        tell(run(i, end));
+        tell(run(i, end, file, numbers, output));
         if n <= end {
             return;
         }
@@ -85,34 +106,41 @@ fn tell(status: u8) {
 }
 
 // Does the command of the words from i to before `end`, and gives its status.
-fn run(i: usize, end: usize) -> u8 {
+fn run(i: usize, end: usize, file: &mut [u8], numbers: &mut [u64], output: &mut [u8]) -> u8 {
     let mut word = [0u8; 16];
     let k = os::arg(i, &mut word);
     let verb = verb_of(&word[..k]);
     if verb == 0 {
         return say::complain(b"columns: there is no such verb");
     }
-    command(verb, after(i), end)
+    command(verb, after(i), end, file, numbers, output)
 }
 
-fn command(verb: u8, from: usize, end: usize) -> u8 {
+fn command(
+    verb: u8,
+    from: usize,
+    end: usize,
+    file: &mut [u8],
+    numbers: &mut [u64],
+    output: &mut [u8],
+) -> u8 {
     if verb == WRITE {
-        return input::write();
+        return input::write(numbers, output);
     }
     if verb == FIND {
-        return find(from, end);
+        return find(from, end, file, numbers, output);
     }
     if verb == ROWS {
-        return rows(from, end);
+        return rows(from, end, file, numbers, output);
     }
     if verb == ROW {
-        return row(from, end);
+        return row(from, file, numbers, output);
     }
-    each_file(new_task(verb, 0, 0, 0), from, end)
+    each_file(new_task(verb, 0, 0, 0), from, end, file, numbers, output)
 }
 
 // `find LOW HIGH FILE..`
-fn find(from: usize, end: usize) -> u8 {
+fn find(from: usize, end: usize, file: &mut [u8], numbers: &mut [u64], output: &mut [u8]) -> u8 {
     let Parsed::Number(low) = number_at(from) else {
         return say::complain(
             b"columns: find takes two numbers and then files: the first word is no number",
@@ -124,22 +152,29 @@ fn find(from: usize, end: usize) -> u8 {
             b"columns: find takes two numbers and then files: the second word is no number",
         );
     };
-    each_file(new_task(FIND, low, high, 2), after(second), end)
+    each_file(
+        new_task(FIND, low, high, 2),
+        after(second),
+        end,
+        file,
+        numbers,
+        output,
+    )
 }
 
 // `row FILE P`
-fn row(from: usize, end: usize) -> u8 {
+fn row(from: usize, file: &mut [u8], numbers: &mut [u64], output: &mut [u8]) -> u8 {
     let Parsed::Number(p) = number_at(after(from)) else {
         return say::complain(b"columns: row takes a file and the number of a row");
     };
-    one_file(new_task(ROW, p, 0, 1), from, false)
+    one_file(new_task(ROW, p, 0, 1), from, false, file, numbers, output)
 }
 
 // `rows FILE [A [B]]`
-fn rows(from: usize, end: usize) -> u8 {
+fn rows(from: usize, end: usize, file: &mut [u8], numbers: &mut [u64], output: &mut [u8]) -> u8 {
     let second = after(from);
     if end <= second {
-        return one_file(new_task(ROWS, 0, 0, 0), from, false);
+        return one_file(new_task(ROWS, 0, 0, 0), from, false, file, numbers, output);
     }
     let Parsed::Number(a) = number_at(second) else {
         return say::complain(
@@ -148,7 +183,7 @@ fn rows(from: usize, end: usize) -> u8 {
     };
     let third = after(second);
     if end <= third {
-        return one_file(new_task(ROWS, a, 0, 1), from, false);
+        return one_file(new_task(ROWS, a, 0, 1), from, false, file, numbers, output);
     }
     let Parsed::Number(b) = number_at(third) else {
         return say::complain(
@@ -158,7 +193,7 @@ fn rows(from: usize, end: usize) -> u8 {
     if b < a {
         return say::complain(b"columns: rows takes the lower row first");
     }
-    one_file(new_task(ROWS, a, b, 2), from, false)
+    one_file(new_task(ROWS, a, b, 2), from, false, file, numbers, output)
 }
 
 fn new_task(verb: u8, first: u64, second: u64, given: u8) -> Task {
@@ -172,12 +207,19 @@ fn new_task(verb: u8, first: u64, second: u64, given: u8) -> Task {
 
 // Does the task for each file that the words name, and gives the status of them all. Where there are several, each line begins with the
 // file's name.
-fn each_file(task: Task, from: usize, end: usize) -> u8 {
+fn each_file(
+    task: Task,
+    from: usize,
+    end: usize,
+    file: &mut [u8],
+    numbers: &mut [u64],
+    output: &mut [u8],
+) -> u8 {
     let many = after(from) < end;
     let mut status = 3;
     let mut i = from;
     while i < end {
-        status = merged(status, one_file(task, i, many));
+        status = merged(status, one_file(task, i, many, file, numbers, output));
         i += 1;
     }
     if status == 3 {
@@ -200,14 +242,21 @@ fn merged(a: u8, b: u8) -> u8 {
     b
 }
 
-fn one_file(task: Task, i: usize, many: bool) -> u8 {
+fn one_file(
+    task: Task,
+    i: usize,
+    many: bool,
+    file: &mut [u8],
+    numbers: &mut [u64],
+    output: &mut [u8],
+) -> u8 {
     let mut name = [0u8; 4096];
     let k = os::arg(i, &mut name);
     if os::errno() != 0 {
         os::fail(b"columns: the name of a file");
         return 2;
     }
-    walk::named(task, &name[..k], many)
+    walk::named(task, &name[..k], many, file, numbers, output)
 }
 
 // The number that word i is.

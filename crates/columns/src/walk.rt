@@ -38,7 +38,14 @@ use summary::thousandths;
 pub const LINE: usize = 4500;
 
 // Does a task for the file of that name, and gives its status.
-pub fn named(task: Task, name: &[u8], many: bool) -> u8 {
+pub fn named(
+    task: Task,
+    name: &[u8],
+    many: bool,
+    file: &mut [u8],
+    numbers: &mut [u64],
+    output: &mut [u8],
+) -> u8 {
     let fd = os::open_read(name);
     if fd < 0 {
         os::fail(name);
@@ -49,7 +56,7 @@ pub fn named(task: Task, name: &[u8], many: bool) -> u8 {
         libc::close(fd);
         return 2;
     }
-    let status = opened(task, fd, name, many);
+    let status = opened(task, fd, name, many, file, numbers, output);
     libc::close(fd);
     status
 }
@@ -60,10 +67,28 @@ fn is_readable(fd: i32) -> bool {
     libc::pread(fd, &mut one, 0) >= 0
 }
 
-fn opened(task: Task, fd: i32, name: &[u8], many: bool) -> u8 {
+fn opened(
+    task: Task,
+    fd: i32,
+    name: &[u8],
+    many: bool,
+    file: &mut [u8],
+    numbers: &mut [u64],
+    output: &mut [u8],
+) -> u8 {
     let mut front = [0u8; 8196];
     let mut body = [0u8; 10240];
-    with_room(task, fd, name, many, &mut front, &mut body)
+    with_room(
+        task,
+        fd,
+        name,
+        many,
+        &mut front,
+        &mut body,
+        file,
+        numbers,
+        output,
+    )
 }
 
 fn with_room(
@@ -73,19 +98,42 @@ fn with_room(
     many: bool,
     front: &mut [u8],
     body: &mut [u8],
+    file: &mut [u8],
+    numbers: &mut [u64],
+    output: &mut [u8],
 ) -> u8 {
     let m = read_front(fd, front);
-    with_front(task, fd, name, many, &front[..m], body)
+    with_front(
+        task,
+        fd,
+        name,
+        many,
+        &front[..m],
+        body,
+        file,
+        numbers,
+        output,
+    )
 }
 
 // The contents are tested for every verb, and the bodies here for those that go through them. The calls on a whole file test what they need.
-fn with_front(task: Task, fd: i32, name: &[u8], many: bool, front: &[u8], body: &mut [u8]) -> u8 {
+fn with_front(
+    task: Task,
+    fd: i32,
+    name: &[u8],
+    many: bool,
+    front: &[u8],
+    body: &mut [u8],
+    file: &mut [u8],
+    numbers: &mut [u64],
+    output: &mut [u8],
+) -> u8 {
     let answer = contents::check(front, length_of(fd));
     if answer.number() != 0 {
         return refused(task, answer, name, many);
     }
     if ROWS < task.verb {
-        return whole::opened(task, fd, name, many);
+        return whole::opened(task, fd, name, many, file, numbers, output);
     }
     let answer = check_file(fd, front, body);
     if answer.number() != 0 {

@@ -1,5 +1,5 @@
-// The verbs whose calls take a whole file: row, find, rewrite and canonical. The longest file that is readable has 2,625,540 bytes (edition 1,
-// 256 run blocks of 1,024 values); its contents were tested against its length before, so that a longer one does not come here.
+// The verbs whose calls take a whole file: row, find, rewrite and canonical. There is room for the longest file that is readable; the contents were
+// tested against the file's length before, so that a longer one does not come here.
 use crate::CANONICAL;
 use crate::FIND;
 use crate::ROW;
@@ -25,31 +25,37 @@ use search::Found;
 use writer::Written;
 
 // Reads the file, and does the task.
-pub fn opened(task: Task, fd: i32, name: &[u8], many: bool) -> u8 {
-    let mut file = [0u8; 2_625_540];
-    lend_file(task, fd, name, many, &mut file)
-}
-
-fn lend_file(task: Task, fd: i32, name: &[u8], many: bool, file: &mut [u8; 2_625_540]) -> u8 {
-    with_room(task, fd, name, many, file)
-}
-
-fn with_room(task: Task, fd: i32, name: &[u8], many: bool, file: &mut [u8]) -> u8 {
+pub fn opened(
+    task: Task,
+    fd: i32,
+    name: &[u8],
+    many: bool,
+    file: &mut [u8],
+    numbers: &mut [u64],
+    output: &mut [u8],
+) -> u8 {
     let n = read_at(fd, 0, file);
-    with_file(task, name, many, &file[..n])
+    with_file(task, name, many, &file[..n], numbers, output)
 }
 
-fn with_file(task: Task, name: &[u8], many: bool, file: &[u8]) -> u8 {
+fn with_file(
+    task: Task,
+    name: &[u8],
+    many: bool,
+    file: &[u8],
+    numbers: &mut [u64],
+    output: &mut [u8],
+) -> u8 {
     if task.verb == ROW {
         return row(task, name, file);
     }
     if task.verb == FIND {
-        return find(task, name, many, file);
+        return find(task, name, many, file, numbers);
     }
     if task.verb == CANONICAL {
         return canonical(name, many, file);
     }
-    rewritten(name, file)
+    rewritten(name, file, output)
 }
 
 // ---- row: the value, and how many packed words its bits stand in
@@ -85,16 +91,7 @@ fn put_words(words: u64, line: &mut [u8], at: usize) -> usize {
 
 // ---- find: the rows between two bounds, with their values
 
-fn find(task: Task, name: &[u8], many: bool, file: &[u8]) -> u8 {
-    let mut rows = [0u64; 262_144];
-    lend_rows(task, name, many, file, &mut rows)
-}
-
-fn lend_rows(task: Task, name: &[u8], many: bool, file: &[u8], rows: &mut [u64; 262_144]) -> u8 {
-    find_rows(task, name, many, file, rows)
-}
-
-fn find_rows(task: Task, name: &[u8], many: bool, file: &[u8], rows: &mut [u64]) -> u8 {
+fn find(task: Task, name: &[u8], many: bool, file: &[u8], rows: &mut [u64]) -> u8 {
     let found = search::search(file, task.first, task.second, rows);
     match found {
         Found::Rows(n, k) => say_found(n, k, name, many, file, rows),
@@ -315,16 +312,7 @@ fn differs(status: u8) -> u8 {
 
 // ---- rewrite: the new file is the output
 
-fn rewritten(name: &[u8], file: &[u8]) -> u8 {
-    let mut output = [0u8; 2_105_348];
-    lend_output(name, file, &mut output)
-}
-
-fn lend_output(name: &[u8], file: &[u8], output: &mut [u8; 2_105_348]) -> u8 {
-    rewrite_to(name, file, output)
-}
-
-fn rewrite_to(name: &[u8], file: &[u8], output: &mut [u8]) -> u8 {
+fn rewritten(name: &[u8], file: &[u8], output: &mut [u8]) -> u8 {
     let written = rewrite::rewrite(file, output);
     match written {
         Written::Length(n) => finished(write_out(output, n)),

@@ -1,15 +1,17 @@
 -- `columns::each_file` goes from word to word.
 -- Assumes nothing.
-use Prim.Native.Nat.{_-_, _≤_}
+use mathlib.Core.Path.{_≡_}
+use Prim.Native.Nat.{_-_}
+use lib.ListN.{length}
 use borrow.Author.Needs.{needs}
 use Rattle.columns.proofs.each_file.Statement.{statement}
 use Rattle.columns.proofs.each_file.Tie as tie
 
 abbrev Inv-loop : tie.InvT-loop
-Inv-loop task from end many status₀ i₀ t7 status i = from ≤ i
+Inv-loop task from end file₀ numbers₀ output₀ many status₀ i₀ t10 file numbers output status i = (length file ≡ length file₀) × (length numbers ≡ length numbers₀) × (length output ≡ length output₀)
 
 abbrev μ-loop : tie.MeasureT-loop
-μ-loop task from end many status₀ i₀ t7 status i = end - i
+μ-loop task from end file₀ numbers₀ output₀ many status₀ i₀ t10 file numbers output status i = end - i
 
 after-requires : tie.Need-after-requires Inv-loop μ-loop
 after-requires c κs = search needs
@@ -38,8 +40,26 @@ slice-aggregate-complain c = search needs
 complain-requires : tie.Need-complain-requires Inv-loop μ-loop
 complain-requires c κs = search needs
 
+same-length : tie.Need-same-length Inv-loop μ-loop
+same-length c = search needs
+
+same-length-2 : tie.Need-same-length-2 Inv-loop μ-loop
+same-length-2 c = search needs
+
+same-length-3 : tie.Need-same-length-3 Inv-loop μ-loop
+same-length-3 c = search needs
+
 returns : tie.Need-returns Inv-loop μ-loop
 returns c = search needs
+
+same-length-4 : tie.Need-same-length-4 Inv-loop μ-loop
+same-length-4 c = search needs
+
+same-length-5 : tie.Need-same-length-5 Inv-loop μ-loop
+same-length-5 c = search needs
+
+same-length-6 : tie.Need-same-length-6 Inv-loop μ-loop
+same-length-6 c = search needs
 
 returns-2 : tie.Need-returns-2 Inv-loop μ-loop
 returns-2 c = search needs
@@ -59,5 +79,11 @@ each-file-spec =
     loop-again
     slice-aggregate-complain
     complain-requires
+    same-length
+    same-length-2
+    same-length-3
     returns
+    same-length-4
+    same-length-5
+    same-length-6
     returns-2)

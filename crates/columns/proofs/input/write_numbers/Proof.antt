@@ -16,9 +16,13 @@ slice-aggregate-write-part c = sym (length-take-le _ _ (omega arith))
 write-part-requires : tie.Need-write-part-requires
 write-part-requires c κs = search needs
 
+same-length : tie.Need-same-length
+same-length c = search needs
+
 returns-2 : tie.Need-returns-2
 returns-2 c = search needs
 
 pub write-numbers-spec : {M : Type 1} → statement M
 write-numbers-spec =
-    tie.close (tie.spec returns slice-aggregate-write-part write-part-requires returns-2)
+    tie.close
+    (tie.spec returns slice-aggregate-write-part write-part-requires same-length returns-2)

@@ -25,6 +25,15 @@ same-length c = search needs
 same-length-2 : tie.Need-same-length-2
 same-length-2 c = search needs
 
+same-length-3 : tie.Need-same-length-3
+same-length-3 c = search needs
+
+same-length-4 : tie.Need-same-length-4
+same-length-4 c = search needs
+
+same-length-5 : tie.Need-same-length-5
+same-length-5 c = search needs
+
 returns : tie.Need-returns
 returns c = search needs
 
@@ -38,4 +47,7 @@ with-room-spec =
     with-front-requires
     same-length
     same-length-2
+    same-length-3
+    same-length-4
+    same-length-5
     returns)

@@ -1,11 +1,11 @@
--- `columns::whole::with_room` lends what was read.
+-- `columns::whole::opened` lends what was read.
 -- Assumes nothing.
 use mathlib.Core.Path.{sym}
 use native.Mathlib.Omega.{arith}
 use lib.Seq.{length-take-le}
 use borrow.Author.Needs.{needs}
-use Rattle.columns.proofs.whole.with_room.Statement.{statement}
-use Rattle.columns.proofs.whole.with_room.Tie as tie
+use Rattle.columns.proofs.whole.opened.Statement.{statement}
+use Rattle.columns.proofs.whole.opened.Tie as tie
 
 read-at-requires : tie.Need-read-at-requires
 read-at-requires c κs = search needs
@@ -22,11 +22,17 @@ with-file-requires c κs = search needs
 same-length : tie.Need-same-length
 same-length c = search needs
 
+same-length-2 : tie.Need-same-length-2
+same-length-2 c = search needs
+
+same-length-3 : tie.Need-same-length-3
+same-length-3 c = search needs
+
 returns : tie.Need-returns
 returns c = search needs
 
-pub with-room-spec : {M : Type 1} → statement M
-with-room-spec =
+pub opened-spec : {M : Type 1} → statement M
+opened-spec =
     tie.close
     (tie.spec
     read-at-requires
@@ -34,4 +40,6 @@ with-room-spec =
     slice-aggregate-with-file
     with-file-requires
     same-length
+    same-length-2
+    same-length-3
     returns)
