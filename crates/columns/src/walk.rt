@@ -1,7 +1,6 @@
 // The verbs that go through a file body by body, in bounded room: check, show and rows. The file is checked first, and gone through once more
 // for its blocks. A body that has changed in between is refused when it is read again.
 use crate::CHECK;
-use crate::FIND;
 use crate::ROWS;
 use crate::SHOW;
 use crate::Task;

@@ -1,8 +1,6 @@
 // The lines on standard output. They are gathered in a buffer, and written when it is nearly full and at the end. A place behind the
 // end of the buffer says that a write has failed: nothing more is gathered then, nor written.
 use libc::STDOUT_FILENO;
-ghost use Prim.Native.Nat.{_≤_};
-ghost use lib.ListN.{length};
 
 // The place that says that a write has failed. No buffer is so long.
 pub const FAILED: usize = 18446744073709551615;

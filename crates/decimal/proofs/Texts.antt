@@ -1,7 +1,7 @@
 -- The laws of the text of a number: how it is laid, digit by digit, and that reading and laying are inverse.
 -- Assumes nothing.
 use mathlib.Core.Bool.{Bool, true, false}
-use mathlib.Core.List.{List, [], _∷_, _++_, map, map-append, map-map, append-assoc}
+use mathlib.Core.List.{List, [], _∷_, _++_, map, map-append, append-assoc}
 use mathlib.Core.Path.{_≡_, refl, sym, ap, ap₂, _∙_}
 use Prim.Native.Nat.{ℕ, zero, suc, _+_, _*_, _-_, _/_, _%_, _≤_, _<_}
 use native.Mathlib.Nat.{le-of-suc-le-suc}
@@ -10,13 +10,12 @@ use native.Mathlib.Omega.{arith}
 use lib.Dec.{leb, ltb, eqb}
 use lib.ListN.{length, getD, set, take, drop, length-append, length-map}
 use lib.Seq.{set-split, drop-cons, drop-length}
-use borrow.Author.Tests.{lt-ltb, le-ltb, le-leb, lt-leb, ne-eqb, ltb-true, ltb-false, leb-true, leb-false, eqb-false}
+use borrow.Author.Tests.{lt-ltb, le-ltb, le-leb, ne-eqb, ltb-true, ltb-false, leb-true, leb-false, eqb-false}
 use Rattle.places.specs.Pick.{pick}
 use Rattle.places.specs.Search.{firstBeyond}
 use Rattle.places.specs.Tab.{over}
 use Rattle.places.proofs.Search.{first-beyond-le, first-beyond-before}
 use Rattle.places.proofs.Overs.{over-append, over-apart}
-use Rattle.decimal.specs.declared.Parsed.{Parsed}
 use Rattle.decimal.specs.declared.Parsed.the-variants.{Number, Empty, Other, Large}
 use Rattle.decimal.specs.Decimal.{digitOf, digitsOf, valueFrom, valueOf, digitsIn, textOf, Bare}
 use Rattle.decimal.specs.Calls.{digitsOr, parsedOf, laidOf}
@@ -43,7 +42,7 @@ long-one n h = ap length (text-one n h)
 pub long-more : (n : ℕ) → 10 ≤ n → length (textOf n) ≡ length (textOf (n / 10)) + 1
 long-more n h = simp length-append at (ap length (text-more n h))
 
--- No text of a number is empty, and of a number of 64 bits it has at most 20 bytes.
+-- No text of a number is empty.
 pub long-some : (n : ℕ) → 1 ≤ length (textOf n)
 long-some n = go (ltb n 10) refl
   where
@@ -66,6 +65,7 @@ long-many n h = go (ltb n 10) refl
     go true e = absurd (omega (arith, long-one n (ltb-true n 10 e)))
     go false e = ltb-false n 10 e
 
+-- The text of a number of 64 bits has at most 20 bytes.
 pub long-most : (n : ℕ) → n < 18446744073709551616 → length (textOf n) ≤ 20
 unfolding textOf
 long-most n h = omega (arith, length-map (digitsIn n) byte, digits-few 19 n (omega arith))
@@ -133,7 +133,6 @@ digits-text n = same-digits (digitsIn n)
 pub parse-text : (n : ℕ) → n < 18446744073709551616 → parsedOf (textOf n) ≡ Number n
 parse-text n h =
     let some : length (textOf n) ≡ 0 → ⊥ = λ e. absurd (omega (arith, long-some n)) in
-    let value = value-digits n in
     simp (
       ne-eqb (length (textOf n)) 0 some,
       digits-text n,

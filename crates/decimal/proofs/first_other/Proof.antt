@@ -6,7 +6,7 @@ use lib.ListN.{length, getD}
 use borrow.Author.Count.{below-more}
 use borrow.Author.Needs.{needs}
 use Rattle.places.proofs.Search.{first-beyond-only}
-use Rattle.decimal.specs.Decimal.{digitOf, digitsOf}
+use Rattle.decimal.specs.Decimal.{digitsOf}
 use Rattle.decimal.proofs.Texts.{digits-length, digit-at}
 use Rattle.decimal.proofs.first_other.Statement.{statement}
 use Rattle.decimal.proofs.first_other.Tie as tie
