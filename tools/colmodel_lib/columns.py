@@ -9,7 +9,7 @@ from .files import BOTH
 
 HEADING = (
     "block  kind         width             reference              smallest               largest"
-    "  bytes  bytes/row  width in fours"
+    "  bytes  bytes/row  a # for 4 bits"
 )
 SENTENCES = {
     8: "the file is cut short, it ends before its contents or its bodies do; fetch it again",

@@ -350,7 +350,7 @@ fn put_heading(task: Task, name: &[u8], many: bool, out: &mut [u8]) -> usize {
     }
     let at = put_name(name, many, out, 0);
     put_text(
-        b"block  kind         width             reference              smallest               largest  bytes  bytes/row  width in fours\n",
+        b"block  kind         width             reference              smallest               largest  bytes  bytes/row  a # for 4 bits\n",
         out,
         at,
     )
