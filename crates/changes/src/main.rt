@@ -5,33 +5,29 @@
 // read gives 8 and 0, as one does that is cut short.
 //
 // It holds the contents of both files, one body and one block of each, and goes through the files twice by positions: once to
-// check them and once to compare them. What it decides is proved in the crate compare; here stand the reading, in the module
-// read, the printing, in the module print, and the two walks.
+// check them and once to compare them. What it decides is proved in the crate compare; the reading and the lines
+// stand in the crate console, and here the printing, in the module print, and the walk that compares.
 //
 // A file that changes between the walks: a body is tested again when it is read again, and no row is listed from one that is
 // refused then. The refusal of its file is the last line.
 mod print;
-mod read;
 
 use compare::blocks_in_both;
 use compare::check_block;
 use compare::differing;
-use compare::is_open;
 use compare::row_count;
 use compare::same_range;
-use compare::step;
+use console::lines::write_out;
+use console::read::next_start;
+use console::read::read_front;
+use console::walk::check_file;
+use console::walk::lay_down;
 use contents::FileAnswer;
 use contents::contents_length;
-use contents::count;
 use contents::entry_or;
 use print::put_changes;
 use print::write_end;
-use print::write_out;
 use print::write_refusal;
-use read::length_of;
-use read::next_start;
-use read::read_body;
-use read::read_front;
 
 fn main() {
     let left = os::open_read(b"left.col");
@@ -69,26 +65,6 @@ fn check_both(
         return;
     }
     make_room(left, right, &left_front[..m], &right_front[..n], body);
-}
-
-// The answer to a file whose contents are in `front`, body by body.
-fn check_file(fd: i32, front: &[u8], body: &mut [u8]) -> FileAnswer {
-    let mut answer = contents::check(front, length_of(fd));
-    let n = count(front);
-    let mut at = contents_length(front);
-    let mut i = 0;
-    while i < n {
-        if !is_open(answer) {
-            return answer;
-        }
-        let e = entry_or(front, i);
-        let got = read_body(fd, e.length, at, body);
-        let next = step(answer, front, i, &body[..got]);
-        answer = next;
-        at = next_start(at, e.length);
-        i += 1;
-    }
-    answer
 }
 
 // Room for a block of each file, for the places at which they differ, and for what is printed.
@@ -290,20 +266,6 @@ fn compare_laid(
         return Found::Right(answer);
     }
     Found::Places(k)
-}
-
-// Reads body i of a file again, and lays its block down.
-fn lay_down(
-    fd: i32,
-    front: &[u8],
-    i: usize,
-    at: usize,
-    body: &mut [u8],
-    block: &mut [u64],
-) -> FileAnswer {
-    let e = entry_or(front, i);
-    let got = read_body(fd, e.length, at, body);
-    compare::block_of(front, i, &body[..got], block)
 }
 
 // The walk behind block i, in which k rows differ.

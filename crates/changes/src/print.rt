@@ -1,9 +1,11 @@
-// The lines on standard output. They are gathered in a buffer, and written when it is nearly full and at the end.
+// The lines on standard output.
 use compare::Change;
 use compare::change_at;
+use console::lines::put_number;
+use console::lines::put_text;
+use console::lines::write_if_full;
+use console::lines::write_out;
 use contents::FileAnswer;
-use libc::STDOUT_FILENO;
-ghost use Prim.Native.Nat.{_≤_};
 
 // The most bytes that a line has: `refused right`, or a row and two numbers, with spaces and a newline, are fewer.
 const LINE: usize = 80;
@@ -27,8 +29,8 @@ fn put_refusal(side: &[u8], answer: FileAnswer, line: &mut [u8]) {
 
 // The last lines, behind what is gathered: the row counts where they differ, and how many rows differ.
 pub fn write_end(left: u64, right: u64, differences: u64, out: &mut [u8], from: usize) {
-    let at = put_rows(left, right, out, write_if_full(out, from));
-    let at = put_text(b"differences ", out, write_if_full(out, at));
+    let at = put_rows(left, right, out, write_if_full(LINE, out, from));
+    let at = put_text(b"differences ", out, write_if_full(LINE, out, at));
     let at = put_number(differences, out, at);
     let at = put_text(b"\n", out, at);
     write_out(out, at);
@@ -62,7 +64,7 @@ pub fn put_changes(
             return at;
         }
         let change = change_at(i, left, right, places[k]);
-        at = put_change(change, out, write_if_full(out, at));
+        at = put_change(change, out, write_if_full(LINE, out, at));
         k += 1;
     }
     at
@@ -75,44 +77,4 @@ fn put_change(change: Change, out: &mut [u8], at: usize) -> usize {
     let at = put_text(b" ", out, at);
     let at = put_number(change.right, out, at);
     put_text(b"\n", out, at)
-}
-
-// A number in decimal, from place `at` on; gives the place behind it.
-fn put_number(n: u64, out: &mut [u8], at: usize) -> usize {
-    let mut digits = [0u8; 20];
-    let k = io::decimal(n, &mut digits);
-    put_text(&digits[..k], out, at)
-}
-
-// A text, from place `at` on, as far as there is room; gives the place behind it.
-fn put_text(text: &[u8], out: &mut [u8], from: usize) -> usize {
-    let mut at = from;
-    let mut i = 0;
-    while i < text.len() {
-        if out.len() <= at {
-            return at;
-        }
-        out[at] = text[i];
-        at += 1;
-        i += 1;
-    }
-    at
-}
-
-// Where the next line goes: where there is no room for one, what is gathered is written, and the line goes to the front.
-fn write_if_full(out: &[u8], at: usize) -> usize {
-    if at < out.len() {
-        if LINE <= out.len() - at {
-            return at;
-        }
-    }
-    write_out(out, at);
-    0
-}
-
-// Writes what is gathered.
-pub fn write_out(out: &[u8], at: usize) {
-    if at <= out.len() {
-        io::write_all(STDOUT_FILENO, &out[..at]);
-    }
 }

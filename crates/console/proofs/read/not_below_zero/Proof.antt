@@ -1,0 +1,34 @@
+-- `console::read::not_below_zero` meets its contract: an i64 that is not below 0 fits a usize.
+-- Assumes nothing.
+use mathlib.Core.Bool.{Bool, false, not}
+use mathlib.Core.Path.{_≡_, sym, subst}
+use Prim.Native.Nat.{_≤_, _^_}
+use native.Mathlib.Omega.{arith}
+use lib.Dec.{T}
+use lib.IntN.{pos, natAbs}
+use lib.Signed.{ltZ, ltZ-no, yes-nonNeg, natAbs-le}
+use mir.Facts.{toZ-ofZ}
+use mir.Syntax.{w64}
+use mir.Val.{toZ, ofZ}
+use borrow.Author.Needs.{needs}
+use Rattle.console.proofs.read.not_below_zero.Statement.{statement}
+use Rattle.console.proofs.read.not_below_zero.Tie as tie
+
+returns : tie.Need-returns
+returns c = search needs
+
+-- what is read back is at most 2^63
+small : (c : tie.Else1) → natAbs (toZ w64 (ofZ w64 (c .before .args .x))) ≤ 2 ^ 63
+small c = rw (toZ-ofZ (c .before .fits .x)) (natAbs-le (c .before .args .x) (c .before .fits .x .sfits))
+
+cast-result : tie.Need-cast-result
+cast-result c =
+    let z = toZ w64 (ofZ w64 (c .before .args .x)) in
+    let e : ltZ z (pos 0) ≡ false = c .if1 .left in
+    (yes-nonNeg {z = z} (ltZ-no {a = z} {b = pos 0} (subst (λ b. T (not b)) (sym e) tt)), record { fits = omega (arith, small c) })
+
+returns-2 : tie.Need-returns-2
+returns-2 c = search needs
+
+pub not-below-zero-spec : {M : Type 1} → statement M
+not-below-zero-spec = tie.close (tie.spec returns cast-result returns-2)

@@ -1,0 +1,119 @@
+"""What the program crates/columns is to print, from the models of document 02 and from the usage of tools/columns.
+
+Each function gives the text for standard output, the status, and the number that a complaint on standard error has to
+begin with, or None where there is no complaint. The layout of a line and the sentences are ours and stand here a second
+time; every number in them is the models'.
+"""
+from . import canonical, files, rewrite, search
+from .files import BOTH
+
+HEADING = (
+    "block  kind         width             reference              smallest               largest"
+    "  bytes  bytes/row  a # for 4 bits"
+)
+SENTENCES = {
+    8: "the file is cut short, it ends before its contents or its bodies do; fetch it again",
+    9: "this is no column file of edition 1 or 2 with at most 256 blocks; is it the right file?",
+    10: "entry {} of the contents is not as laid out: its kind, width, length, reference or range cannot be",
+    11: "there are bytes behind the last body; the file was written over, or two were joined",
+    12: "there is no such row; `columns check` says how many there are",
+    13: "block {} has a run index at or beyond the number of its run values; its rows cannot be told",
+    15: "block {} has another smallest or largest value than the contents say; the body or the contents are damaged",
+    17: "block {} is not as our writer would write it; `columns rewrite` makes a file that is",
+}
+OLD_EDITION = "9 0: the file is of edition 1, and our writer gives edition 2; `columns rewrite` makes one"
+MOST_ROWS = 1024 * files.MOST_BLOCKS
+
+
+def answer_words(answer):
+    return f"{answer.number} {answer.place}: {SENTENCES[answer.number].format(answer.place)}"
+
+
+def refusal(answer):
+    """The line of a refusal, as check prints it and others complain."""
+    return f"refused {answer_words(answer)}"
+
+
+def named(name, lines):
+    """The lines, each behind the file's name where there is one."""
+    return "".join(f"{name}: {line}\n" if name else f"{line}\n" for line in lines)
+
+
+def thousandths(size, rows):
+    """Bytes a row, with three places behind the point and no more."""
+    n = size * 1000 // rows if rows else 0
+    return f"{n // 1000}.{n % 1000:03}"
+
+
+def counts(data):
+    n = files.count_of(data)
+    return f"{n} blocks, {1024 * n} rows, edition {files.edition_of(data)}"
+
+
+def refused(answer):
+    return "", 2, refusal(answer)
+
+
+def check(data, name=""):
+    answer = files.check(data, BOTH)
+    if answer.number:
+        return named(name, [refusal(answer)]), 2, None
+    return named(name, [f"ok, {counts(data)}"]), 0, None
+
+
+def block_line(data, i):
+    entry, values = files.entry_at(data, i), files.values_of(data, i)
+    bar = "#" * -(-entry.width // 4)
+    size = f"{entry.length:>7}{thousandths(entry.length, 1024):>11}"
+    where = f"{entry.reference:>22}{min(values):>22}{max(values):>22}"
+    return f"{i:>5}  {files.KINDS[entry.kind]:<11}  {entry.width:>5}{where}{size}" + (f"  {bar}" if bar else "")
+
+
+def show(data, name=""):
+    answer = files.check(data, BOTH)
+    if answer.number:
+        return refused(answer)
+    n = files.count_of(data)
+    blocks = [block_line(data, i) for i in range(n)]
+    total = f"{counts(data)}, {len(data)} bytes, {thousandths(len(data), 1024 * n)} bytes/row"
+    return named(name, [HEADING, *blocks, total]), 0, None
+
+
+def rows(data, first=None, last=None):
+    answer = files.check(data, BOTH)
+    if answer.number:
+        return refused(answer)
+    values = rewrite.all_values(data)
+    for row in (first, last):
+        if row is not None and len(values) <= row:
+            return refused(files.Answer(12, 0, ""))
+    end = len(values) if last is None else last + 1
+    return named("", values[first or 0 : end]), 0, None
+
+
+def row(data, p):
+    answer, value, words = files.row_lookup(data, p)
+    if answer.number:
+        return refused(answer)
+    return f"{value}, from the whole body\n" if words is None else f"{value}, words {words}\n", 0, None
+
+
+def find(data, low, high, name=""):
+    answer, found = search.search(data, low, high, MOST_ROWS)
+    if answer.number:
+        return refused(answer)
+    lines = [f"{p} {files.values_of(data, p // 1024)[p % 1024]}" for p in found]
+    opened = len(search.opened(data, low, high))
+    last = f"found {len(found)}, opened {opened} of {files.count_of(data)} blocks"
+    return named(name, [*lines, last]), 0 if found else 1, None
+
+
+def is_canonical(data, name=""):
+    answer = files.check(data, BOTH)
+    if answer.number:
+        return refused(answer)
+    answer = canonical.check(data)
+    if not answer.number:
+        return named(name, ["ok, this is what our writer gives"]), 0, None
+    words = OLD_EDITION if answer.number == 9 else answer_words(answer)
+    return named(name, [f"differs {words}"]), 1, None
