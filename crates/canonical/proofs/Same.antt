@@ -1,6 +1,6 @@
 -- The tests of two entries and of two lists say that they are the same.
 -- Assumes nothing.
-use mathlib.Core.Bool.{Bool, true, false}
+use mathlib.Core.Bool.{true, false}
 use mathlib.Core.List.{List, [], _∷_}
 use mathlib.Core.Logic.{_↔_}
 use mathlib.Core.Path.{_≡_, refl, sym, ap, ap₂, _∙_}
@@ -11,7 +11,7 @@ use lib.ListN.{length, getD, take, length-take}
 use lib.Seq.{ext-getD, getD-take}
 use borrow.Author.Tests.{eq-eqb, eqb-true}
 use Rattle.places.specs.Pick.{both}
-use Rattle.places.proofs.Tests.{both-true, false-true}
+use Rattle.places.proofs.Tests.{both-true, not-then, false-true}
 use Rattle.contents.specs.declared.Entry.{Entry}
 use Rattle.canonical.specs.Canonical.{isSameEntry, isSame}
 
@@ -50,10 +50,6 @@ same-list (x ∷ a) (y ∷ b) e = let t = both-true (eqb x y) (isSame a b) e in 
 
 pub list-same : (a b : List ℕ) → (isSame a b ≡ true) ↔ (a ≡ b)
 list-same a b = (same-list a b, λ e. ap (isSame a) (sym e) ∙ same-self a)
-
-not-then : (b : Bool) → (b ≡ true → ⊥) → b ≡ false
-not-then true n = absurd (n refl)
-not-then false n = refl
 
 -- Two lists that differ at a place are not the same.
 pub list-differs : (a b : List ℕ) (i : ℕ) → (getD a i 0 ≡ getD b i 0 → ⊥) → isSame a b ≡ false

@@ -1,20 +1,18 @@
 -- What the loops over two blocks keep: one that joins all the differences, and one that writes the places at which the blocks differ.
 -- Assumes nothing.
 use mathlib.Core.Bool.{Bool, true, false}
-use mathlib.Core.List.{List, [], _∷_, _++_, append-nil, append-assoc}
+use mathlib.Core.List.{List, [], _∷_, append-nil}
 use mathlib.Core.Path.{_≡_, refl, sym, ap, ap₂, _∙_}
 use Prim.Native.Nat.{ℕ, _+_, _≤_, _<_}
 use native.Mathlib.Decide.{decLe, ℕ-discrete}
 use native.Mathlib.Nat.{zero-add}
-use native.Mathlib.Numerals.{add-one}
 use native.Mathlib.Omega.{arith}
 use lib.Bits.{bitOr, bitXor, bitAnd, or-add-and, and-le-l, and-le-r, xor-add-and, xor-self, or-zero-l}
 use lib.Dec.{eqb}
-use lib.ListN.{length, getD, take, drop, set, length-append}
-use lib.Seq.{set-split}
+use lib.ListN.{length, getD, set, length-append}
 use borrow.Author.Tests.{eq-eqb, ne-eqb, eqb-true}
 use Rattle.places.specs.Tab.{over}
-use Rattle.places.proofs.Overs.{length-over, over-nothing, over-append}
+use Rattle.places.proofs.Overs.{set-over, length-over, over-nothing, over-append}
 use Rattle.places.specs.Pick.{pick, both}
 use Rattle.compare.specs.Changes.{failingFrom, isSame, differing, listedOf}
 use Rattle.compare.specs.InnerSame.{sameOf}
@@ -113,12 +111,6 @@ noted-same {left} {right} {x} {i = i} t h e same-list same-count =
       many = same-count ∙ t .many ∙ ap length (sym same);
       is = same-list ∙ t .is ∙ ap (λ l. over 0 l x) (sym same);
     }
-
--- one number is written over another
-set-over : (l : List ℕ) (n v : ℕ) → n < length l → set l n v ≡ over n (v ∷ []) l
-unfolding over
-set-over l n v h =
-    set-split l n v h ∙ ap (λ k. take n l ++ (v ∷ drop k l)) (sym (add-one n)) ∙ sym (append-assoc (take n l) (v ∷ []) (drop (n + 1) l))
 
 pub noted-other : {left right x y z : List ℕ} {n m i : ℕ} → Noted left right x y n i → i < 1024 → (getD left i 0 ≡ getD right i 0 → ⊥)
     → z ≡ set y n i → m ≡ n + 1 → Noted left right x z m (i + 1)

@@ -1,21 +1,21 @@
 -- The laws of the text of a number: how it is laid, digit by digit, and that reading and laying are inverse.
 -- Assumes nothing.
 use mathlib.Core.Bool.{Bool, true, false}
-use mathlib.Core.List.{List, [], _∷_, _++_, map, map-append, append-assoc}
+use mathlib.Core.List.{List, [], _∷_, _++_, map, map-append}
 use mathlib.Core.Path.{_≡_, refl, sym, ap, ap₂, _∙_}
 use Prim.Native.Nat.{ℕ, zero, suc, _+_, _*_, _-_, _/_, _%_, _≤_, _<_}
 use native.Mathlib.Nat.{le-of-suc-le-suc}
 use native.Mathlib.Numerals.{add-one}
 use native.Mathlib.Omega.{arith}
 use lib.Dec.{leb, ltb, eqb}
-use lib.ListN.{length, getD, set, take, drop, length-append, length-map}
-use lib.Seq.{set-split, drop-cons, drop-length}
+use lib.ListN.{length, getD, set, drop, length-append, length-map}
+use lib.Seq.{drop-cons, drop-length}
 use borrow.Author.Tests.{lt-ltb, le-ltb, le-leb, ne-eqb, ltb-true, ltb-false, leb-true, leb-false, eqb-false}
 use Rattle.places.specs.Pick.{pick}
 use Rattle.places.specs.Search.{firstBeyond}
 use Rattle.places.specs.Tab.{over}
 use Rattle.places.proofs.Search.{first-beyond-le, first-beyond-before}
-use Rattle.places.proofs.Overs.{over-append, over-apart}
+use Rattle.places.proofs.Overs.{set-over, over-append, over-apart}
 use Rattle.decimal.specs.declared.Parsed.the-variants.{Number, Empty, Other, Large}
 use Rattle.decimal.specs.Decimal.{digitOf, digitsOf, valueFrom, valueOf, digitsIn, textOf, Bare}
 use Rattle.decimal.specs.Calls.{digitsOr, parsedOf, laidOf}
@@ -72,21 +72,16 @@ long-most n h = omega (arith, length-map (digitsIn n) byte, digits-few 19 n (ome
 
 -- ---- laid from the last digit to the first
 
-stored : (l : List ℕ) (n v : ℕ) → n < length l → set l n v ≡ over n (v ∷ []) l
-unfolding over
-stored l n v h =
-    set-split l n v h ∙ ap (λ k. take n l ++ (v ∷ drop k l)) (sym (add-one n)) ∙ sym (append-assoc (take n l) (v ∷ []) (drop (n + 1) l))
-
 -- The last digit is laid, and then those before it.
 pub laid-last : (x : List ℕ) (v : ℕ) (l : List ℕ) (i : ℕ) → i ≡ length x → i < length l → over 0 x (set l i v) ≡ over 0 (x ++ (v ∷ [])) l
 laid-last x v l i e h =
-    ap (over 0 x) (stored l i v h)
+    ap (over 0 x) (set-over l i v h)
     ∙ over-apart 0 i x (v ∷ []) l (omega arith) (omega arith)
     ∙ ap (λ k. over k (v ∷ []) (over 0 x l)) {x = i} {y = 0 + length x} (omega arith)
     ∙ over-append 0 x (v ∷ []) l (omega arith)
 
 pub laid-first : (v : ℕ) (l : List ℕ) → 0 < length l → set l 0 v ≡ over 0 (v ∷ []) l
-laid-first v l h = stored l 0 v h
+laid-first v l h = set-over l 0 v h
 
 -- ---- the digits of a text
 

@@ -16,7 +16,7 @@ use Rattle.places.specs.Search.{firstBeyond}
 use Rattle.places.specs.Tab.{tab}
 use Rattle.places.proofs.Search.{first-beyond-none}
 use Rattle.places.proofs.Tabs.{getD-tab, length-tab}
-use Rattle.places.proofs.Tests.{false-true, both-true}
+use Rattle.places.proofs.Tests.{not-then, false-true, both-true}
 use Rattle.little.specs.Little.{little, numbersOf}
 use Rattle.contents.specs.declared.Entry.{Entry}
 use Rattle.contents.specs.declared.FileAnswer.{FileAnswer}
@@ -45,11 +45,7 @@ use Rattle.files.proofs.Ranges.{ranges-done, range-at}
 module _ (n : ℕ) (test : ℕ → Bool) (Holds : ℕ → Type 0) (plain : (i : ℕ) → (test i ≡ true) ↔ Holds i) where
   pub lowest-found : (p : ℕ) → p < n → (Holds p → ⊥) → ((i : ℕ) → i < p → Holds i) → firstBad n test ≡ p
   lowest-found p h bad before =
-      sym (first-only n p test (omega arith) (λ i b. plain i .1 (before i b)) (λ _. not-true (test p) (λ e. bad (plain p .0 e))))
-    where
-      not-true : (b : Bool) → (b ≡ true → ⊥) → b ≡ false
-      not-true true n = absurd (n refl)
-      not-true false n = refl
+      sym (first-only n p test (omega arith) (λ i b. plain i .1 (before i b)) (λ _. not-then (test p) (λ e. bad (plain p .0 e))))
 
   pub none-found : ((i : ℕ) → i < n → Holds i) → firstBad n test ≡ n
   none-found all = sym (first-only n n test (omega arith) (λ i b. plain i .1 (all i b)) (λ h. absurd (omega arith)))

@@ -1,19 +1,26 @@
--- The laws of a list that is written over another, whatever stands in the two: nothing is written, two runs are written one after the other,
+-- The laws of a list that is written over another, whatever stands in the two: one entry is written, nothing is, two runs are written one after the other,
 -- two runs are written apart, and a run is written through a tail that was lent.
 -- Assumes nothing.
 use mathlib.Core.Path.{_≡_, sym, ap, _∙_}
-use mathlib.Core.List.{List, [], _++_, append-nil, append-assoc}
-use Prim.Native.Nat.{ℕ, _+_, _≤_}
+use mathlib.Core.List.{List, [], _∷_, _++_, append-nil, append-assoc}
+use Prim.Native.Nat.{ℕ, _+_, _≤_, _<_}
 use native.Mathlib.Nat.{add-assoc, add-zero, zero-add}
+use native.Mathlib.Numerals.{add-one}
 use native.Mathlib.Omega.{arith}
-use lib.ListN.{length, take, drop, length-append, length-take, length-drop, take-append-drop}
-use lib.Seq.{length-take-le, take-append-le, drop-append-le, take-append-add, drop-append-add, take-append-seam, drop-append-seam, take-at, drop-drop}
+use lib.ListN.{length, set, take, drop, length-append, length-take, length-drop, take-append-drop}
+use lib.Seq.{set-split, length-take-le, take-append-le, drop-append-le, take-append-add, drop-append-add, take-append-seam, drop-append-seam, take-at, drop-drop}
 use Rattle.places.specs.Tab.{over}
 
 -- the list keeps its length
 pub length-over : {A : Type 0} (p : ℕ) (x l : List A) → p + length x ≤ length l → length (over p x l) ≡ length l
 unfolding over
 length-over p x l h = simp (length-append, length-take, length-drop) (omega arith)
+
+-- one entry that is stored is written over its place
+pub set-over : (l : List ℕ) (n v : ℕ) → n < length l → set l n v ≡ over n (v ∷ []) l
+unfolding over
+set-over l n v h =
+    set-split l n v h ∙ ap (λ k. take n l ++ (v ∷ drop k l)) (sym (add-one n)) ∙ sym (append-assoc (take n l) (v ∷ []) (drop (n + 1) l))
 
 -- nothing is written
 pub over-nothing : {A : Type 0} (p : ℕ) (l : List A) → over p [] l ≡ l

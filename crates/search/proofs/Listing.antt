@@ -2,20 +2,14 @@
 -- Assumes nothing.
 use mathlib.Core.Bool.{Bool, true, false}
 use mathlib.Core.List.{List, [], _∷_, _++_, append-nil}
-use mathlib.Core.Path.{_≡_, refl, sym, ap, ap₂, _∙_}
+use mathlib.Core.Path.{_≡_, sym, ap, ap₂, _∙_}
 use Prim.Native.Nat.{ℕ, _+_, _-_, _≤_, _<_}
 use native.Mathlib.Omega.{arith}
 use lib.ListN.{length, length-append, set}
-use Rattle.places.specs.Tab.{tab, tabFrom, over}
-use Rattle.places.proofs.Overs.{length-over, over-nothing, over-append}
-use Rattle.places.proofs.Tabs.{written-none, written-next}
+use Rattle.places.specs.Tab.{over}
+use Rattle.places.proofs.Overs.{length-over, set-over, over-nothing, over-append}
 use Rattle.search.specs.Passing.{passing}
 use Rattle.search.proofs.Passing.{one, passing-none-yet, passing-next, passing-split}
-
--- One entry that is stored is written over its place.
-stored : (l : List ℕ) (i v : ℕ) → i < length l → set l i v ≡ over i (v ∷ []) l
-unfolding tab tabFrom
-stored l i v h = written-next {f = λ _. v} (written-none {p = i} {x = l} (omega arith)) i v (omega arith) (omega arith) refl .is
 
 module _ (s : ℕ) (test : ℕ → Bool) where
   -- How many pass, by whether one more does.
@@ -75,7 +69,7 @@ module _ {s n : ℕ} {test : ℕ → Bool} {k next : ℕ} {x y : List ℕ} (befo
       record {
         at = omega (arith, before .at, more-pass s test n e);
         is =
-            stored y next v (omega arith)
+            set-over y next v (omega arith)
             ∙ ap₂ (λ p l. over p (v ∷ []) l) (before .at) (before .is)
             ∙ ap (λ w. over (k + length (passing s n test)) (w ∷ []) (over k (passing s n test) x)) is
             ∙ over-append k (passing s n test) ((s + n) ∷ []) x room

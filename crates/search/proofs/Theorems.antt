@@ -13,7 +13,7 @@ use borrow.Author.Tests.{le-leb, leb-true, eq-eqb, eqb-true}
 use Rattle.places.specs.Numbers.{Elements}
 use Rattle.places.specs.Pick.{pick, both, either}
 use Rattle.places.proofs.Overs.{over-front, over-rest}
-use Rattle.places.proofs.Tests.{both-true, either-true, false-true}
+use Rattle.places.proofs.Tests.{both-true, either-true, not-then, false-true}
 use Rattle.contents.specs.declared.FileAnswer.{FileAnswer}
 use Rattle.contents.specs.declared.FileAnswer.the-variants.{Done}
 use Rattle.contents.specs.declared.Range.{Range}
@@ -74,10 +74,6 @@ between-exactly low high v = (
   λ e. let t = both-true (leb low v) (leb v high) e in (leb-true low v (t .0), leb-true v high (t .1)),
   λ h. ap₂ both (le-leb low v (h .0)) (le-leb v high (h .1)),
 )
-
-not-then : (b : Bool) → (b ≡ true → ⊥) → b ≡ false
-not-then true n = absurd (n refl)
-not-then false n = refl
 
 module _ (l : List ℕ) (low high : ℕ) (bytes : Elements 8 l) (done : fileAnswer (fileTests l) ≡ Done) where
   -- In an accepted file of edition 2, a block whose range misses the bounds has no row between them.
