@@ -114,7 +114,7 @@ size_t fascjoldi_unpack_indices_u64(size_t width, const uint64_t *packed, size_t
     size_t indices_length, uint64_t *output, size_t output_length, uint64_t *words, size_t *place);
 
 /* Unpacks the values at the first places of a list, as many as the budget of words is enough for, and says how many these are and
-   how many words they stand in; refused, both are 0. */
+   how many words they stand in; refused, both are 0. The outputs behind these stay as they were. */
 size_t fascjoldi_unpack_within_u8(size_t width, const uint8_t *packed, size_t packed_length, const size_t *indices,
     size_t indices_length, uint64_t budget, uint8_t *output, size_t output_length, size_t *answered, uint64_t *words,
     size_t *place);
@@ -178,7 +178,8 @@ size_t fascjoldi_unfor_pack_u32(size_t width, const uint32_t *packed, size_t pac
 size_t fascjoldi_unfor_pack_u64(size_t width, const uint64_t *packed, size_t packed_length, uint64_t reference, uint64_t *values,
     size_t values_length, size_t *place);
 
-/* Unpacks so many blocks of one width that stand one after another. */
+/* Unpacks so many blocks of one width that stand one after another: 2 where there are more than 256 or the values are not 1,024
+   for each, and 3 where the packed length is not that of so many blocks. */
 size_t fascjoldi_unpack_blocks_u8(size_t width, size_t blocks, const uint8_t *packed, size_t packed_length, uint8_t *values,
     size_t values_length, size_t *place);
 size_t fascjoldi_unpack_blocks_u16(size_t width, size_t blocks, const uint16_t *packed, size_t packed_length, uint16_t *values,
@@ -188,7 +189,7 @@ size_t fascjoldi_unpack_blocks_u32(size_t width, size_t blocks, const uint32_t *
 size_t fascjoldi_unpack_blocks_u64(size_t width, size_t blocks, const uint64_t *packed, size_t packed_length, uint64_t *values,
     size_t values_length, size_t *place);
 
-/* Packs so many blocks, each value minus the one reference, at one width. */
+/* Packs so many blocks, each value minus the one reference, at one width. 2 and 3 are as in unpack_blocks. */
 size_t fascjoldi_for_pack_blocks_u8(size_t width, size_t blocks, const uint8_t *values, size_t values_length, uint8_t reference,
     uint8_t *packed, size_t packed_length, size_t *place);
 size_t fascjoldi_for_pack_blocks_u16(size_t width, size_t blocks, const uint16_t *values, size_t values_length, uint16_t reference,
@@ -247,21 +248,23 @@ size_t fascjoldi_file_block_out(const uint8_t *file, size_t file_length, size_t 
    count; refused, the value is 0. */
 size_t fascjoldi_file_row_at(const uint8_t *file, size_t file_length, size_t row, uint64_t *value, uint64_t *words, size_t *place);
 
-/* Writes a column file of whole blocks of numbers, and says how many bytes it has; refused, the length is 0. */
+/* Writes a column file of whole blocks of numbers, and says how many bytes it has; refused, the length is 0. The output behind
+   the file stays as it was. */
 size_t fascjoldi_file_write(const uint64_t *values, size_t values_length, uint8_t *output, size_t output_length, size_t *length,
     size_t *place);
 
 /* Writes the rows of any readable column file as our writer would, and says how many bytes the new file has; refused, the length
-   is 0. */
+   is 0. The output behind the new file stays as it was. */
 size_t fascjoldi_file_rewrite(const uint8_t *file, size_t file_length, uint8_t *output, size_t output_length, size_t *length,
     size_t *place);
 
 /* Lists the rows whose number lies between two bounds, both included, and says how many they are and how many blocks were opened;
-   refused, both are 0. */
+   refused, both are 0. The room behind the rows stays as it was. */
 size_t fascjoldi_file_search(const uint8_t *file, size_t file_length, uint64_t low, uint64_t high, uint64_t *rows,
     size_t rows_length, size_t *found, size_t *opened, size_t *place);
 
-/* Says how many bytes of a file are its front, by its first four; 4 where these say contents of more than 8,196 bytes. */
+/* Says how many bytes of a file are its front, by its first four: the front is the head and the contents, and the bodies stand
+   behind it. It is 4 where the head is shorter than that, or says contents of more than 8,196 bytes. */
 size_t fascjoldi_front_length(const uint8_t *head, size_t head_length);
 
 /* Checks the contents of a file of so many bytes; the bodies are not looked at. */
@@ -273,37 +276,40 @@ size_t fascjoldi_front_edition(const uint8_t *front, size_t front_length);
 /* Says how many blocks a file has, by its front; 0 where that is too short. */
 size_t fascjoldi_front_count(const uint8_t *front, size_t front_length);
 
-/* Says how many rows a file has, by its front. */
+/* Says how many rows a file has, by its front; 0 where that is too short. */
 uint64_t fascjoldi_front_row_count(const uint8_t *front, size_t front_length);
 
 /* Says where the first body of a file begins, by its front. */
 size_t fascjoldi_front_contents_length(const uint8_t *front, size_t front_length);
 
 /* Gives what the contents say of a block: its kind, its width, the two bytes that are to be 0, the bytes of its body, and its
-   reference. */
+   reference. Where they have no such entry the kind is 255 and all else 0. */
 void fascjoldi_front_entry(const uint8_t *front, size_t front_length, size_t block, uint8_t *kind, uint8_t *width, uint16_t *zero,
     uint32_t *length, uint64_t *reference);
 
 /* Gives the smallest and the largest number that the contents say of a block; 0 and 2^64 - 1 where they say none. */
 void fascjoldi_front_range(const uint8_t *front, size_t front_length, size_t block, uint64_t *smallest, uint64_t *largest);
 
-/* Says whether the fronts of two files say the same of the smallest and the largest number of a block. */
+/* Says whether the fronts of two files say the same of the smallest and the largest number of a block; no where their editions
+   differ. */
 FASCJOLDI_BOOL fascjoldi_front_same_range(const uint8_t *left, size_t left_length, const uint8_t *right, size_t right_length,
     size_t block);
 
 /* Says how many blocks are in both of two files, by their fronts. */
 uint16_t fascjoldi_front_blocks_in_both(const uint8_t *left, size_t left_length, const uint8_t *right, size_t right_length);
 
-/* Checks one body against the contents, and lays down its 1,024 numbers. */
+/* Checks one body against the contents, and lays down its 1,024 numbers. Of 8 and 11 it is the body that is cut short or too
+   long; 10, also where there is no such block, has the place 0, and 13 has the block. */
 size_t fascjoldi_body_block_out(const uint8_t *front, size_t front_length, size_t block, const uint8_t *body, size_t body_length,
     uint64_t *output, size_t output_length, size_t *place);
 
-/* Checks the smallest and the largest of a block's numbers, which were laid down, against what the contents say. */
+/* Checks the smallest and the largest of a block's numbers, which were laid down, against what the contents say: 15 with the
+   block, and nothing is tested in edition 1, which says none. Any length of values is taken. */
 size_t fascjoldi_body_check_range(const uint8_t *front, size_t front_length, size_t block, const uint64_t *values,
     size_t values_length, size_t *place);
 
-/* Lists the places at which two blocks of 1,024 numbers differ, rising, and says how many they are; 0 where a block or the room
-   is not 1,024 long. */
+/* Lists the places at which two blocks of 1,024 numbers differ, rising, and says how many they are. The places behind these stay
+   as they were; so do all, and the result is 0, where a block or the room is not 1,024 long. */
 size_t fascjoldi_block_differing(const uint64_t *left, size_t left_length, const uint64_t *right, size_t right_length,
     uint16_t *places, size_t places_length);
 
@@ -313,7 +319,8 @@ size_t fascjoldi_block_differing(const uint64_t *left, size_t left_length, const
 /* Begins a body of the width that is asked for, with nothing held; refused, the state is that of width 0. */
 size_t fascjoldi_trickle_start(size_t asked, size_t *width, size_t *held, uint8_t room[8192], size_t *place);
 
-/* Feeds a chunk to a state, and gives how many of its bytes were taken: all, or what the body still lacked. */
+/* Feeds a chunk to a state, and gives how many of its bytes were taken: all, or what the body still lacked. A state that no call
+   has left, of a width above 64 or with more bytes held than its body has, counts as that of width 0, and is left so. */
 size_t fascjoldi_trickle_feed(size_t *width, size_t *held, uint8_t room[8192], const uint8_t *chunk, size_t chunk_length);
 
 /* Lays down the 1,024 values of a state when the bytes of its body are all there. */

@@ -16,6 +16,6 @@ int main(void)
     number = fascjoldi_unpack_single_u64(10, packed, 160, 1000, &value, &words, &place);
     printf("number %zu: value %lu, from %lu packed word\n", number, value, words);
     number = fascjoldi_unpack_single_u64(10, packed, 160, 1024, &value, &words, &place);
-    printf("number %zu at place %zu: there is no such row\n", number, place);
+    printf("number %zu at place %zu: there is no such place\n", number, place);
     return 0;
 }

@@ -319,6 +319,9 @@ static void many(void)
         both[i] = (uint8_t)(i % 1024 / 128);
     }
     expect("drawer", fascjoldi_for_pack_blocks_u8(3, 2, both, 2048, 0, both_packed, 768, &place), FASCJOLDI_DONE);
+    expect("drawer of 257", fascjoldi_for_pack_blocks_u8(3, 257, both, 2048, 0, both_packed, 768, &place), FASCJOLDI_BLOCK);
+    expect("drawer short", fascjoldi_unpack_blocks_u8(3, 2, both_packed, 768, both, 1024, &place), FASCJOLDI_BLOCK);
+    expect("drawer packed short", fascjoldi_unpack_blocks_u8(3, 2, both_packed, 384, both, 2048, &place), FASCJOLDI_PACKED);
     expect("drawer's word at 384 + 256", both_packed[640], 250);
     memset(both, 77, 2048);
     expect("drawer back", fascjoldi_unpack_blocks_u8(3, 2, both_packed, 768, both, 2048, &place), FASCJOLDI_DONE);

@@ -1,5 +1,5 @@
-//! The calls from Rust. What is expected comes from the documents: document 01's cases P6 to P9, a refusal for each number, and the
-//! files that document 02 writes out.
+//! The calls from Rust. What is expected comes from the documents: document 01's cases P6 to P9, refusals, and the files that
+//! document 02 writes out.
 use fascjoldi::chunks::Body;
 use fascjoldi::{files, Blocks, Refused};
 

@@ -28,7 +28,8 @@ pub extern "C" fn fascjoldi_trickle_start(
     hand_started(start(asked), width, held, room, place)
 }
 
-// Feeds a chunk to a state, and gives how many of its bytes were taken: all, or what the body still lacked.
+// Feeds a chunk to a state, and gives how many of its bytes were taken: all, or what the body still lacked. A state that no call has left, of a width above 64 or
+// with more bytes held than its body has, counts as that of width 0, and is left so.
 #[no_mangle]
 pub extern "C" fn fascjoldi_trickle_feed(
     width: &mut usize,

@@ -84,7 +84,7 @@ pub extern "C" fn fascjoldi_file_row_at(
     hand_row(row_at(file, row), value, words, place)
 }
 
-// Writes a column file of whole blocks of numbers, and says how many bytes it has; refused, the length is 0.
+// Writes a column file of whole blocks of numbers, and says how many bytes it has; refused, the length is 0. The output behind the file stays as it was.
 #[no_mangle]
 pub extern "C" fn fascjoldi_file_write(
     values: &[u64],
@@ -98,7 +98,8 @@ pub extern "C" fn fascjoldi_file_write(
     hand_written(write(values, output), length, place)
 }
 
-// Writes the rows of any readable column file as our writer would, and says how many bytes the new file has; refused, the length is 0.
+// Writes the rows of any readable column file as our writer would, and says how many bytes the new file has; refused, the length is 0. The output
+// behind the new file stays as it was.
 #[no_mangle]
 pub extern "C" fn fascjoldi_file_rewrite(
     file: &[u8],
@@ -113,6 +114,7 @@ pub extern "C" fn fascjoldi_file_rewrite(
 }
 
 // Lists the rows whose number lies between two bounds, both included, and says how many they are and how many blocks were opened; refused, both are 0.
+// The room behind the rows stays as it was.
 #[no_mangle]
 pub extern "C" fn fascjoldi_file_search(
     file: &[u8],
@@ -129,7 +131,8 @@ pub extern "C" fn fascjoldi_file_search(
     hand_found(search(file, low, high, rows), found, opened, place)
 }
 
-// Says how many bytes of a file are its front, by its first four; 4 where these say contents of more than 8,196 bytes.
+// Says how many bytes of a file are its front, by its first four: the front is the head and the contents, and the bodies stand behind it. It is 4 where the head is
+// shorter than that, or says contents of more than 8,196 bytes.
 #[no_mangle]
 pub extern "C" fn fascjoldi_front_length(head: &[u8]) -> usize
     ensures { λ r. ⌜ r ≡ frontSize (now (head .entry)) ⌝ }
@@ -161,7 +164,7 @@ pub extern "C" fn fascjoldi_front_count(front: &[u8]) -> usize
     count(front)
 }
 
-// Says how many rows a file has, by its front.
+// Says how many rows a file has, by its front; 0 where that is too short.
 #[no_mangle]
 pub extern "C" fn fascjoldi_front_row_count(front: &[u8]) -> u64
     ensures { λ r. ⌜ r ≡ countOr (now (front .entry)) * 1024 ⌝ }
@@ -177,7 +180,8 @@ pub extern "C" fn fascjoldi_front_contents_length(front: &[u8]) -> usize
     contents_length(front)
 }
 
-// Gives what the contents say of a block: its kind, its width, the two bytes that are to be 0, the bytes of its body, and its reference.
+// Gives what the contents say of a block: its kind, its width, the two bytes that are to be 0, the bytes of its body, and its reference. Where
+// they have no such entry the kind is 255 and all else 0.
 #[no_mangle]
 pub extern "C" fn fascjoldi_front_entry(
     front: &[u8],
@@ -206,7 +210,7 @@ pub extern "C" fn fascjoldi_front_range(
     hand_range(range_or(front, block), smallest, largest);
 }
 
-// Says whether the fronts of two files say the same of the smallest and the largest number of a block.
+// Says whether the fronts of two files say the same of the smallest and the largest number of a block; no where their editions differ.
 #[no_mangle]
 pub extern "C" fn fascjoldi_front_same_range(left: &[u8], right: &[u8], block: usize) -> bool
     ensures { λ r. ⌜ r ≡ sameRange (now (left .entry)) (now (right .entry)) block ⌝ }
@@ -222,7 +226,8 @@ pub extern "C" fn fascjoldi_front_blocks_in_both(left: &[u8], right: &[u8]) -> u
     blocks_in_both(left, right)
 }
 
-// Checks one body against the contents, and lays down its 1,024 numbers.
+// Checks one body against the contents, and lays down its 1,024 numbers. Of 8 and 11 it is the body that is cut short or too long; 10, also where
+// there is no such block, has the place 0, and 13 has the block.
 #[no_mangle]
 pub extern "C" fn fascjoldi_body_block_out(
     front: &[u8],
@@ -237,7 +242,8 @@ pub extern "C" fn fascjoldi_body_block_out(
     hand(compare::block_of(front, block, body, output), place)
 }
 
-// Checks the smallest and the largest of a block's numbers, which were laid down, against what the contents say.
+// Checks the smallest and the largest of a block's numbers, which were laid down, against what the contents say: 15 with the block, and nothing
+// is tested in edition 1, which says none. Any length of values is taken.
 #[no_mangle]
 pub extern "C" fn fascjoldi_body_check_range(
     front: &[u8],
@@ -250,7 +256,8 @@ pub extern "C" fn fascjoldi_body_check_range(
     hand(check_block(front, block, values), place)
 }
 
-// Lists the places at which two blocks of 1,024 numbers differ, rising, and says how many they are; 0 where a block or the room is not 1,024 long.
+// Lists the places at which two blocks of 1,024 numbers differ, rising, and says how many they are. The places behind
+// these stay as they were; so do all, and the result is 0, where a block or the room is not 1,024 long.
 #[no_mangle]
 pub extern "C" fn fascjoldi_block_differing(
     left: &[u64],
