@@ -77,6 +77,10 @@ module _ {s n : ℕ} {test : ℕ → Bool} {k next : ℕ} {x y : List ℕ} (befo
       }
 
   -- a run of numbers that is listed behind it
+  pub listing-count : {m last : ℕ} {z : List ℕ} → Listing (s + n) m test next last y z → last ≡ k + length (passing s (n + m) test)
+  listing-count {m} after =
+      omega (arith, before .at, after .at, ap length (passing-split s n m test), length-append (passing s n test) (passing (s + n) m test))
+
   pub listing-run : (m : ℕ) {last : ℕ} {z : List ℕ} → last ≤ length x → Listing (s + n) m test next last y z → Listing s (n + m) test k last x z
   listing-run m {last} {z} h after =
       let both = passing-split s n m test in

@@ -310,19 +310,25 @@ fn list_from(
 
 // Lists the rows of a block that begins with row `first` whose value lies between the bounds.
 fn list_block(block: &[u64], first: usize, low: u64, high: u64, k: usize, rows: &mut [u64]) -> usize
-    requires { ⌜ first + length (now block) < 18446744073709551616 ⌝ }
+    requires { ⌜ length (now block) ≡ 1024 ⌝ }
+    requires { ⌜ first + 1024 < 18446744073709551616 ⌝ }
     requires { ⌜ k + length (foundIn (now block) first low high) ≤ length (now rows) ⌝ }
     ensures { λ r. ⌜ r ≡ k + length (foundIn (now (block .entry)) first low high) ⌝ }
     ensures { λ _. ⌜ now (rows .exit) ≡ over k (foundIn (now (block .entry)) first low high) (now (rows .entry)) ⌝ }
 {
     let mut next = k;
-    let mut j = 0;
-    while j < block.len() {
-        if lies(block[j], low, high) {
-            rows[next] = (first + j) as u64;
-            next += 1;
+    let mut o = 0;
+    while o < 128 {
+        let mut i = 0;
+        while i < 8 {
+            let j = o * 8 + i;
+            if lies(block[j], low, high) {
+                rows[next] = (first + j) as u64;
+                next += 1;
+            }
+            i += 1;
         }
-        j += 1;
+        o += 1;
     }
     next
 }

@@ -42,8 +42,8 @@ list-block-requires c κs =
     let start = laid .before .before .before .before in
     let l = now (start .args .file) in
     let i = start .args .i in (
-      omega (arith, whole l (start .pre .0) .few, start .pre .1 .0, ap length (block-is laid), in-long l (start .args .low) (start .args .high) i),
-      rw (block-is laid) (start .pre .1 .1 .1 .1),
+      omega (arith, ap length (block-is laid), in-long l (start .args .low) (start .args .high) i),
+      (omega (arith, whole l (start .pre .0) .few, start .pre .1 .0), rw (block-is laid) (start .pre .1 .1 .1 .1)),
     )
 
 same-length : tie.Need-same-length
