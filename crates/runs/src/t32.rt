@@ -30,17 +30,22 @@ pub fn decode(dictionary: &[u32], indices: &[u16], output: &mut [u32]) -> Answer
     Answer::Done
 }
 
-// The whole output, where no index is at or beyond the dictionary's length.
+// The whole output, where no index is at or beyond the dictionary's length: eight places at a time, for which the compiler needs one turn of the loop.
 fn look_up(dictionary: &[u32], indices: &[u16], output: &mut [u32])
     requires { ⌜ highestOf (now indices) < length (now dictionary) ⌝ }
     requires { ⌜ length (now indices) ≡ 1024 ⌝ }
     requires { ⌜ length (now output) ≡ 1024 ⌝ }
     ensures { λ _. ⌜ now (output .exit) ≡ decodeOf (now (dictionary .entry)) (now (indices .entry)) ⌝ }
 {
-    let mut i = 0;
-    while i < 1024 {
-        let index = indices[i] as usize;
-        output[i] = dictionary[index];
-        i += 1;
+    let mut o = 0;
+    while o < 128 {
+        let mut i = 0;
+        while i < 8 {
+            let p = o * 8 + i;
+            let index = indices[p] as usize;
+            output[p] = dictionary[index];
+            i += 1;
+        }
+        o += 1;
     }
 }
