@@ -139,7 +139,7 @@ pub fn unfor_pack(width: usize, packed: &[u16], reference: u16, values: &mut [u1
     Answer::Done
 }
 
-// The row is loaded again for the next one: that is cheaper than to keep it.
+// Row by row: each minus the one before, row 0 minus the base. A row is loaded again for the next one: that is cheaper than to keep it.
 fn differences(input: &[u16], base: &[u16], output: &mut [u16])
     requires { ⌜ length (now input) ≡ 1024 ⌝ }
     requires { ⌜ length (now base) ≡ lanes t16 ⌝ }
@@ -161,6 +161,7 @@ fn differences(input: &[u16], base: &[u16], output: &mut [u16])
     }
 }
 
+// Row by row: each plus the sums so far, which are the base before row 0.
 fn sums(input: &[u16], base: &[u16], output: &mut [u16])
     requires { ⌜ length (now input) ≡ 1024 ⌝ }
     requires { ⌜ length (now base) ≡ lanes t16 ⌝ }
@@ -182,7 +183,7 @@ fn sums(input: &[u16], base: &[u16], output: &mut [u16])
     }
 }
 
-// The same where the numbers stand, eight rows at a time.
+// The same where the numbers stand, eight rows at a time: of a block that was unpacked at width 0 or T.
 fn sum_up(base: &[u16], values: &mut [u16])
     requires { ⌜ length (now base) ≡ lanes t16 ⌝ }
     requires { ⌜ length (now values) ≡ 1024 ⌝ }
@@ -215,7 +216,7 @@ fn sum_eight(values: &mut [u16], o: usize, before: [u16; LANES]) -> [u16; LANES]
     prev
 }
 
-// Adds the reference to every value, in the order of the places.
+// Adds the reference to every value, in the order of the places: of a block that was unpacked at width 0 or T.
 fn raise(reference: u16, values: &mut [u16])
     requires { ⌜ length (now values) ≡ 1024 ⌝ }
     ensures { λ _. ⌜ now (values .exit) ≡ tab 1024 (λ p. plus t16 (getD (now (values .entry)) p 0) reference) ⌝ }
@@ -298,7 +299,7 @@ fn unpack_sums(width: usize, packed: &[u16], base: &[u16], values: &mut [u16])
     }
 }
 
-// The walk of pack over the differences, at the middle widths.
+// The walk of pack at the middle widths, over each value minus the reference.
 fn frame_split(width: usize, values: &[u16], reference: u16, packed: &mut [u16])
     requires { ⌜ (0 < width) × (width < t16) ⌝ }
     requires { ⌜ length (now values) ≡ 1024 ⌝ }
@@ -338,7 +339,7 @@ fn frame_split(width: usize, values: &[u16], reference: u16, packed: &mut [u16])
     }
 }
 
-// Width T copies the differences.
+// Width T copies each value minus the reference.
 fn frame_copy(values: &[u16], reference: u16, packed: &mut [u16])
     requires { ⌜ length (now values) ≡ 1024 ⌝ }
     requires { ⌜ length (now packed) ≡ 1024 ⌝ }

@@ -138,7 +138,7 @@ pub fn unfor_pack(width: usize, packed: &[u64], reference: u64, values: &mut [u6
     Answer::Done
 }
 
-// The row is loaded again for the next one: that is cheaper than to keep it.
+// Row by row: each minus the one before, row 0 minus the base. A row is loaded again for the next one: that is cheaper than to keep it.
 fn differences(input: &[u64], base: &[u64], output: &mut [u64])
     requires { ⌜ length (now input) ≡ 1024 ⌝ }
     requires { ⌜ length (now base) ≡ lanes t64 ⌝ }
@@ -160,6 +160,7 @@ fn differences(input: &[u64], base: &[u64], output: &mut [u64])
     }
 }
 
+// Row by row: each plus the sums so far, which are the base before row 0.
 fn sums(input: &[u64], base: &[u64], output: &mut [u64])
     requires { ⌜ length (now input) ≡ 1024 ⌝ }
     requires { ⌜ length (now base) ≡ lanes t64 ⌝ }
@@ -181,7 +182,7 @@ fn sums(input: &[u64], base: &[u64], output: &mut [u64])
     }
 }
 
-// The same where the numbers stand, eight rows at a time.
+// The same where the numbers stand, eight rows at a time: of a block that was unpacked at width 0 or T.
 fn sum_up(base: &[u64], values: &mut [u64])
     requires { ⌜ length (now base) ≡ lanes t64 ⌝ }
     requires { ⌜ length (now values) ≡ 1024 ⌝ }
@@ -214,7 +215,7 @@ fn sum_eight(values: &mut [u64], o: usize, before: [u64; LANES]) -> [u64; LANES]
     prev
 }
 
-// Adds the reference to every value, in the order of the places.
+// Adds the reference to every value, in the order of the places: of a block that was unpacked at width 0 or T.
 fn raise(reference: u64, values: &mut [u64])
     requires { ⌜ length (now values) ≡ 1024 ⌝ }
     ensures { λ _. ⌜ now (values .exit) ≡ tab 1024 (λ p. plus t64 (getD (now (values .entry)) p 0) reference) ⌝ }
@@ -297,7 +298,7 @@ fn unpack_sums(width: usize, packed: &[u64], base: &[u64], values: &mut [u64])
     }
 }
 
-// The walk of pack over the differences, at the middle widths.
+// The walk of pack at the middle widths, over each value minus the reference.
 fn frame_split(width: usize, values: &[u64], reference: u64, packed: &mut [u64])
     requires { ⌜ (0 < width) × (width < t64) ⌝ }
     requires { ⌜ length (now values) ≡ 1024 ⌝ }
@@ -337,7 +338,7 @@ fn frame_split(width: usize, values: &[u64], reference: u64, packed: &mut [u64])
     }
 }
 
-// Width T copies the differences.
+// Width T copies each value minus the reference.
 fn frame_copy(values: &[u64], reference: u64, packed: &mut [u64])
     requires { ⌜ length (now values) ≡ 1024 ⌝ }
     requires { ⌜ length (now packed) ≡ 1024 ⌝ }

@@ -139,7 +139,7 @@ pub fn unfor_pack(width: usize, packed: &[u8], reference: u8, values: &mut [u8])
     Answer::Done
 }
 
-// The row is loaded again for the next one: that is cheaper than to keep it.
+// Row by row: each minus the one before, row 0 minus the base. A row is loaded again for the next one: that is cheaper than to keep it.
 fn differences(input: &[u8], base: &[u8], output: &mut [u8])
     requires { ⌜ length (now input) ≡ 1024 ⌝ }
     requires { ⌜ length (now base) ≡ lanes t8 ⌝ }
@@ -161,6 +161,7 @@ fn differences(input: &[u8], base: &[u8], output: &mut [u8])
     }
 }
 
+// Row by row: each plus the sums so far, which are the base before row 0.
 fn sums(input: &[u8], base: &[u8], output: &mut [u8])
     requires { ⌜ length (now input) ≡ 1024 ⌝ }
     requires { ⌜ length (now base) ≡ lanes t8 ⌝ }
@@ -182,7 +183,7 @@ fn sums(input: &[u8], base: &[u8], output: &mut [u8])
     }
 }
 
-// The same where the numbers stand, eight rows at a time.
+// The same where the numbers stand, eight rows at a time: of a block that was unpacked at width 0 or T.
 fn sum_up(base: &[u8], values: &mut [u8])
     requires { ⌜ length (now base) ≡ lanes t8 ⌝ }
     requires { ⌜ length (now values) ≡ 1024 ⌝ }
@@ -215,7 +216,7 @@ fn sum_eight(values: &mut [u8], o: usize, before: [u8; LANES]) -> [u8; LANES]
     prev
 }
 
-// Adds the reference to every value, in the order of the places.
+// Adds the reference to every value, in the order of the places: of a block that was unpacked at width 0 or T.
 fn raise(reference: u8, values: &mut [u8])
     requires { ⌜ length (now values) ≡ 1024 ⌝ }
     ensures { λ _. ⌜ now (values .exit) ≡ tab 1024 (λ p. plus t8 (getD (now (values .entry)) p 0) reference) ⌝ }
@@ -298,7 +299,7 @@ fn unpack_sums(width: usize, packed: &[u8], base: &[u8], values: &mut [u8])
     }
 }
 
-// The walk of pack over the differences, at the middle widths.
+// The walk of pack at the middle widths, over each value minus the reference.
 fn frame_split(width: usize, values: &[u8], reference: u8, packed: &mut [u8])
     requires { ⌜ (0 < width) × (width < t8) ⌝ }
     requires { ⌜ length (now values) ≡ 1024 ⌝ }
@@ -338,7 +339,7 @@ fn frame_split(width: usize, values: &[u8], reference: u8, packed: &mut [u8])
     }
 }
 
-// Width T copies the differences.
+// Width T copies each value minus the reference.
 fn frame_copy(values: &[u8], reference: u8, packed: &mut [u8])
     requires { ⌜ length (now values) ≡ 1024 ⌝ }
     requires { ⌜ length (now packed) ≡ 1024 ⌝ }

@@ -1,4 +1,4 @@
--- What pack's walk over the rows holds between two rows. The contracts of its private steps name these; no public contract does.
+-- What pack's walk over the rows holds between two rows. Its laws name these, and the contract of a private step; no public contract does.
 -- Assumes nothing.
 use mathlib.Core.Path.{_≡_}
 use mathlib.Core.List.{List}

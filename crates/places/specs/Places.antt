@@ -16,7 +16,7 @@ unfoldable pub place : (r l : ℕ) → ℕ
 place r l = order (r / 8) * 16 + (r % 8) * 128 + l
 
 -- This is where row r starts, when the row before starts at q: 128 places on, and at every eighth row by the order list. That it is so for each
--- row is a law.
+-- row is a law. Any two numbers give one: q is brought into a block, and r among 64 rows, so that behind the last of them row 0 comes again.
 unfoldable pub nextStart : (q r : ℕ) → ℕ
 nextStart q r = pick (eqb (r % 8) 0) (place (r / 8 % 8 * 8) 0) (q % 1024 + 128)
 
