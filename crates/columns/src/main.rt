@@ -14,9 +14,11 @@ mod whole;
 use decimal::Parsed;
 ghost use Prim.Native.Nat.{_≤_};
 
-// What is asked: the verb, the numbers that it takes, and how many of them were given.
+// What is asked: the verb, whether each line has the file's name where there is one file too, the numbers that the verb takes, and how
+// many of them were given.
 pub struct Task {
     pub verb: u8,
+    pub named: bool,
     pub first: u64,
     pub second: u64,
     pub given: u8,
@@ -127,33 +129,72 @@ fn command(
     if verb == WRITE {
         return input::write(numbers, output);
     }
-    if verb == FIND {
-        return find(from, end, file, numbers, output);
-    }
     if verb == ROWS {
         return rows(from, end, file, numbers, output);
     }
     if verb == ROW {
         return row(from, file, numbers, output);
     }
-    each_file(new_task(verb, 0, 0, 0), from, end, file, numbers, output)
+    if is_named(from) {
+        return of_files(verb, true, after(from), end, file, numbers, output);
+    }
+    of_files(verb, false, from, end, file, numbers, output)
+}
+
+// Whether word i asks for the file's name in each line, as grep's -H does.
+fn is_named(i: usize) -> bool {
+    let mut word = [0u8; 16];
+    let k = os::arg(i, &mut word);
+    is(&word[..k], b"-H")
+}
+
+// The verbs that take several files.
+fn of_files(
+    verb: u8,
+    named: bool,
+    from: usize,
+    end: usize,
+    file: &mut [u8],
+    numbers: &mut [u64],
+    output: &mut [u8],
+) -> u8 {
+    if verb == FIND {
+        return find(named, from, end, file, numbers, output);
+    }
+    each_file(
+        new_task(verb, named, 0, 0, 0),
+        from,
+        end,
+        file,
+        numbers,
+        output,
+    )
 }
 
 // `find LOW HIGH FILE..`
-fn find(from: usize, end: usize, file: &mut [u8], numbers: &mut [u64], output: &mut [u8]) -> u8 {
+fn find(
+    named: bool,
+    from: usize,
+    end: usize,
+    file: &mut [u8],
+    numbers: &mut [u64],
+    output: &mut [u8],
+) -> u8 {
     let Parsed::Number(low) = number_at(from) else {
-        return say::complain(
-            b"columns: find takes two numbers and then files: the first word is no number",
+        return no_number(
+            number_at(from),
+            b"columns: find takes two numbers and then files: the first word ",
         );
     };
     let second = after(from);
     let Parsed::Number(high) = number_at(second) else {
-        return say::complain(
-            b"columns: find takes two numbers and then files: the second word is no number",
+        return no_number(
+            number_at(second),
+            b"columns: find takes two numbers and then files: the second word ",
         );
     };
     each_file(
-        new_task(FIND, low, high, 2),
+        new_task(FIND, named, low, high, 2),
         after(second),
         end,
         file,
@@ -165,48 +206,91 @@ fn find(from: usize, end: usize, file: &mut [u8], numbers: &mut [u64], output: &
 // `row FILE P`
 fn row(from: usize, file: &mut [u8], numbers: &mut [u64], output: &mut [u8]) -> u8 {
     let Parsed::Number(p) = number_at(after(from)) else {
-        return say::complain(b"columns: row takes a file and the number of a row");
+        return no_number(
+            number_at(after(from)),
+            b"columns: row takes a file and the number of a row: the second word ",
+        );
     };
-    one_file(new_task(ROW, p, 0, 1), from, false, file, numbers, output)
+    one_file(
+        new_task(ROW, false, p, 0, 1),
+        from,
+        false,
+        file,
+        numbers,
+        output,
+    )
 }
 
 // `rows FILE [A [B]]`
 fn rows(from: usize, end: usize, file: &mut [u8], numbers: &mut [u64], output: &mut [u8]) -> u8 {
     let second = after(from);
     if end <= second {
-        return one_file(new_task(ROWS, 0, 0, 0), from, false, file, numbers, output);
+        return rows_from(0, 0, 0, from, file, numbers, output);
     }
     let Parsed::Number(a) = number_at(second) else {
-        return say::complain(
-            b"columns: rows takes a file and the numbers of two rows: the first is no number",
+        return no_number(
+            number_at(second),
+            b"columns: rows takes a file and the numbers of two rows: the first ",
         );
     };
     let third = after(second);
     if end <= third {
-        return one_file(new_task(ROWS, a, 0, 1), from, false, file, numbers, output);
+        return rows_from(a, 0, 1, from, file, numbers, output);
     }
     let Parsed::Number(b) = number_at(third) else {
-        return say::complain(
-            b"columns: rows takes a file and the numbers of two rows: the second is no number",
+        return no_number(
+            number_at(third),
+            b"columns: rows takes a file and the numbers of two rows: the second ",
         );
     };
     if b < a {
         return say::complain(b"columns: rows takes the lower row first");
     }
-    one_file(new_task(ROWS, a, b, 2), from, false, file, numbers, output)
+    rows_from(a, b, 2, from, file, numbers, output)
 }
 
-fn new_task(verb: u8, first: u64, second: u64, given: u8) -> Task {
+fn rows_from(
+    a: u64,
+    b: u64,
+    given: u8,
+    from: usize,
+    file: &mut [u8],
+    numbers: &mut [u64],
+    output: &mut [u8],
+) -> u8 {
+    one_file(
+        new_task(ROWS, false, a, b, given),
+        from,
+        false,
+        file,
+        numbers,
+        output,
+    )
+}
+
+// The complaint that a word is no number, or one that is too large. Its status is 2.
+fn no_number(parsed: Parsed, which: &[u8]) -> u8 {
+    io::write_all(libc::STDERR_FILENO, which);
+    match parsed {
+        Parsed::Large => {
+            say::complain(b"is a number that is too large; the largest is 18446744073709551615")
+        }
+        _ => say::complain(b"is no number"),
+    }
+}
+
+fn new_task(verb: u8, named: bool, first: u64, second: u64, given: u8) -> Task {
     Task {
         verb,
+        named,
         first,
         second,
         given,
     }
 }
 
-// Does the task for each file that the words name, and gives the status of them all. Where there are several, each line begins with the
-// file's name.
+// Does the task for each file that the words name, and gives the status of them all. Where there are several, or it is asked for, each line
+// begins with the file's name.
 fn each_file(
     task: Task,
     from: usize,
@@ -215,11 +299,15 @@ fn each_file(
     numbers: &mut [u64],
     output: &mut [u8],
 ) -> u8 {
-    let many = after(from) < end;
+    let many = is_many(task, from, end);
     let mut status = 3;
     let mut i = from;
     while i < end {
-        status = merged(status, one_file(task, i, many, file, numbers, output));
+        status = merged(
+            task.verb,
+            status,
+            one_file(task, i, many, file, numbers, output),
+        );
         i += 1;
     }
     if status == 3 {
@@ -228,18 +316,33 @@ fn each_file(
     status
 }
 
-// The status of two files: 2 where one has it, and else the lower one.
-fn merged(a: u8, b: u8) -> u8 {
+// Whether each line has the file's name.
+fn is_many(task: Task, from: usize, end: usize) -> bool {
+    if task.named {
+        return true;
+    }
+    after(from) < end
+}
+
+// The status of the files so far and of one more, where 3 stands for no file: 2 where one is refused. Else find has found something where it did
+// in one of them, and of the other verbs a difference in one is a difference.
+fn merged(verb: u8, a: u8, b: u8) -> u8 {
+    if a == 3 {
+        return b;
+    }
     if a == 2 {
         return 2;
     }
     if b == 2 {
         return 2;
     }
-    if a < b {
+    if a == b {
         return a;
     }
-    b
+    if verb == FIND {
+        return 0;
+    }
+    1
 }
 
 fn one_file(

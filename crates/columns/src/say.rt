@@ -25,6 +25,12 @@ fn put_complaint(answer: FileAnswer, name: &[u8], line: &mut [u8]) {
     write_to(STDERR_FILENO, line, at);
 }
 
+// The complaint that fewer bytes of a file were read than it has, so that nothing can be said of it. Its status is 2.
+pub fn unread(name: &[u8]) -> u8 {
+    io::write_all(STDERR_FILENO, name);
+    complain(b": a read failed, or the file was changed meanwhile")
+}
+
 // How writing ended: with status 0, or with a complaint and status 2.
 pub fn finished(good: bool) -> u8 {
     if good {

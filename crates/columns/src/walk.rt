@@ -8,8 +8,10 @@ use crate::say::finished;
 use crate::say::put_name;
 use crate::say::put_refusal;
 use crate::say::refuse;
+use crate::say::unread;
 use crate::whole;
 use compare::check_block;
+use compare::front_length;
 use compare::row_count;
 use console::lines::put_number;
 use console::lines::put_text;
@@ -115,7 +117,8 @@ fn with_room(
     )
 }
 
-// The contents are tested for every verb, and the bodies here for those that go through them. The calls on a whole file test what they need.
+// The contents are tested for every verb, and the bodies here for those that go through them. The calls on a whole file test what they need. Contents that
+// could not be read as far as the file has them are not tested: they say nothing of the file.
 fn with_front(
     task: Task,
     fd: i32,
@@ -127,6 +130,9 @@ fn with_front(
     numbers: &mut [u64],
     output: &mut [u8],
 ) -> u8 {
+    if is_unread(front, length_of(fd)) {
+        return unread(name);
+    }
     let answer = contents::check(front, length_of(fd));
     if answer.number() != 0 {
         return refused(task, answer, name, many);
@@ -136,9 +142,25 @@ fn with_front(
     }
     let answer = check_file(fd, front, body);
     if answer.number() != 0 {
-        return refused(task, answer, name, many);
+        return refused_body(task, answer, name, many);
     }
     accepted(task, fd, name, many, front, body)
+}
+
+// Whether fewer bytes of the contents were read than a file of that size has.
+fn is_unread(front: &[u8], size: usize) -> bool {
+    if front.len() < size {
+        return front.len() < front_length(front);
+    }
+    false
+}
+
+// A refusal of a body of a file that is as long as its contents say. There 8 says that the body was not read whole, and nothing of the file.
+fn refused_body(task: Task, answer: FileAnswer, name: &[u8], many: bool) -> u8 {
+    if answer.number() == 8 {
+        return unread(name);
+    }
+    refused(task, answer, name, many)
 }
 
 // A refusal is the result of check, and a complaint of any other verb.
@@ -235,7 +257,7 @@ fn go_through(
     if walk.status != 0 {
         return walk.status;
     }
-    let at = put_totals(task, name, many, front, length_of(fd), out, walk.gathered);
+    let at = put_totals(task, name, many, front, walk.start, out, walk.gathered);
     finished(write_out(out, at))
 }
 
@@ -263,7 +285,7 @@ fn step(
     let answer = lay_down(fd, front, i, walk.start, body, block);
     if answer.number() != 0 {
         write_out(out, walk.gathered);
-        return at_place(next, 0, refuse(answer, name));
+        return at_place(next, 0, refused_body(task, answer, name, many));
     }
     let answer = check_block(front, i, block);
     if answer.number() != 0 {
@@ -409,7 +431,7 @@ fn put_bar(n: usize, out: &mut [u8], at: usize) -> usize {
     put_times(b'#', n, out, at)
 }
 
-// The last line of `show`: what all blocks come to.
+// The last line of `show`: what all blocks come to. The file ends where the walk does: it was refused where its length is another.
 fn put_totals(
     task: Task,
     name: &[u8],

@@ -8,12 +8,14 @@ use crate::say::finished;
 use crate::say::put_answer;
 use crate::say::put_name;
 use crate::say::refuse;
+use crate::say::unread;
 use crate::walk::LINE;
 use access::NO_COUNT;
 use console::lines::put_number;
 use console::lines::put_text;
 use console::lines::write_if_full;
 use console::lines::write_out;
+use console::read::length_of;
 use console::read::next_start;
 use console::read::read_at;
 use contents::contents_length;
@@ -35,6 +37,9 @@ pub fn opened(
     output: &mut [u8],
 ) -> u8 {
     let n = read_at(fd, 0, file);
+    if n < length_of(fd) {
+        return unread(name);
+    }
     with_file(task, name, many, &file[..n], numbers, output)
 }
 

@@ -1,2 +1,3 @@
 pub mod Digits
+pub mod Reasons
 pub mod Texts

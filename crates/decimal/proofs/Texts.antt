@@ -137,7 +137,7 @@ parse-text n h =
       lt-ltb n 18446744073709551616 h,
     )
 
-positive : (n : ℕ) → (n ≡ 0 → ⊥) → 1 ≤ n
+pub positive : (n : ℕ) → (n ≡ 0 → ⊥) → 1 ≤ n
 positive zero h = absurd (h refl)
 positive (suc n) h = omega arith
 

@@ -18,7 +18,7 @@ summaryOf e block = record {
   largest = highestOf block;
 }
 
--- Thousandths of a byte for each row, rounded down. A number by 0 is 0.
+-- Thousandths of a byte for each row, rounded down. Of no rows it is 0.
 abbrev pub thousandthsOf : (bytes rows : ℕ) → ℕ
 thousandthsOf bytes rows = bytes * 1000 / rows
 
@@ -26,6 +26,6 @@ thousandthsOf bytes rows = bytes * 1000 / rows
 abbrev pub marksOf : (width : ℕ) → ℕ
 marksOf width = (width + 3) / 4
 
--- The place of block i at which a row stands, and the nearest one where it stands in another block.
+-- The place of block i at which a row stands: 0 where it stands in a block before it, and 1,024 where it stands in one behind it.
 abbrev pub placeIn : (row i : ℕ) → ℕ
 placeIn row i = min (row - i * 1024) 1024

@@ -13,8 +13,8 @@ Inv-loop task from end file₀ numbers₀ output₀ many status₀ i₀ t10 file
 abbrev μ-loop : tie.MeasureT-loop
 μ-loop task from end file₀ numbers₀ output₀ many status₀ i₀ t10 file numbers output status i = end - i
 
-after-requires : tie.Need-after-requires Inv-loop μ-loop
-after-requires c κs = search needs
+is-many-requires : tie.Need-is-many-requires Inv-loop μ-loop
+is-many-requires c κs = search needs
 
 loop-holds : tie.Need-loop-holds Inv-loop μ-loop
 loop-holds c = search needs
@@ -70,7 +70,7 @@ each-file-spec =
     (tie.spec
     Inv-loop
     μ-loop
-    after-requires
+    is-many-requires
     loop-holds
     one-file-requires
     merged-requires

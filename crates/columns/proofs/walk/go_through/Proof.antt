@@ -49,9 +49,6 @@ same-length-3 c = search needs
 returns : tie.Need-returns Inv-loop μ-loop
 returns c = search needs
 
-length-of-requires : tie.Need-length-of-requires Inv-loop μ-loop
-length-of-requires c κs = search needs
-
 put-totals-requires : tie.Need-put-totals-requires Inv-loop μ-loop
 put-totals-requires c κs = search needs
 
@@ -91,7 +88,6 @@ go-through-spec =
     same-length-2
     same-length-3
     returns
-    length-of-requires
     put-totals-requires
     write-out-requires
     finished-requires
