@@ -1,61 +1,62 @@
--- What a state counts as: a width of at most 64, and no more bytes held than the body of that width has.
+-- What a state counts as: itself, or the state of a refused start; in either case one with a width of at most 64, and with no more bytes held than the body
+-- of that width has.
 -- Assumes nothing.
 use mathlib.Core.Bool.{Bool, true, false}
-use mathlib.Core.List.{[]}
-use mathlib.Core.Path.{_≡_, refl, ap}
+use mathlib.Core.Path.{_≡_, refl, sym, ap, subst}
 use Prim.Native.Nat.{ℕ, _≤_, _<_}
 use native.Mathlib.Decide.{decLe}
 use native.Mathlib.Omega.{arith}
-use lib.ListN.{length, take}
+use lib.ListN.{length, take, length-replicate}
 use lib.Seq.{length-take-le}
 use borrow.Author.Tests.{leb-true, le-leb, lt-leb}
 use Rattle.places.specs.Pick.{pick}
 use Rattle.places.proofs.Tests.{both-true}
 use Rattle.trickle.specs.declared.State.{State}
-use Rattle.trickle.specs.Trickle.{bodySize, canBe, widthOf, countOf, heldOf, countsAs}
+use Rattle.trickle.specs.Answers.{trickleAnswer}
+use Rattle.trickle.specs.Trickle.{bodySize, canBe, startedOf, countsAs, widthOf, countOf, heldOf}
 
--- a width and a number of bytes held that can be, or 0 and 0
-limits : (w h : ℕ) → (pick (canBe w h) w 0 ≤ 64) × (pick (canBe w h) h 0 ≤ bodySize (pick (canBe w h) w 0))
-limits w h = go (canBe w h) refl
-  where
-    go : (b : Bool) → canBe w h ≡ b → (pick b w 0 ≤ 64) × (pick b h 0 ≤ bodySize (pick b w 0))
-    go true e = let each = both-true _ _ e in (leb-true w 64 (each .0), leb-true h (bodySize w) (each .1))
-    go false e = (omega arith, omega arith)
+-- The width that counts is at most 64, and no more bytes count as held than the body has.
+abbrev pub Limits : (s : State) → Type 0
+Limits s = (s .width ≤ 64) × (s .held ≤ bodySize (s .width))
 
-pub counted : (s : State) → (widthOf s ≤ 64) × (countOf s ≤ bodySize (widthOf s))
-unfolding widthOf countOf
-counted s = limits (s .width) (s .held)
+module _ (s : State) where
+  pub counted : Limits (countsAs s)
+  unfolding countsAs startedOf trickleAnswer
+  counted = go (canBe (s .width) (s .held)) refl
+    where
+      go : (b : Bool) → canBe (s .width) (s .held) ≡ b → Limits (pick b s (startedOf 0 .state))
+      go true e = let each = both-true _ _ e in (leb-true (s .width) 64 (each .0), leb-true (s .held) (bodySize (s .width)) (each .1))
+      go false e = (omega arith, omega arith)
 
--- The width w and the number h of bytes held are those that the state counts as having.
-pub record Numbers (s : State) (w h : ℕ) : Type 0 where
-  pub width : w ≡ widthOf s
-  pub count : h ≡ countOf s
-  pub narrow : w ≤ 64
-  pub within : h ≤ bodySize w
+  pub counted-as : {c : State} → c ≡ countsAs s → Limits c
+  counted-as e = subst Limits (sym e) counted
 
-pub numbers : (s : State) (w h : ℕ) → w ≡ pick (canBe (s .width) (s .held)) (s .width) 0 → h ≡ pick (canBe (s .width) (s .held)) (s .held) 0
-    → Numbers s w h
-unfolding widthOf countOf
-numbers s w h ew eh =
-    let each = limits (s .width) (s .held) in
-    record { width = ew; count = eh; narrow = rw ew (each .0); within = rw (ew, eh) (each .1) }
+  -- Its room is as long.
+  pub counts-long : length (s .room) ≡ 8192 → length (countsAs s .room) ≡ 8192
+  unfolding countsAs startedOf
+  counts-long long = go (canBe (s .width) (s .held))
+    where
+      go : (b : Bool) → length (pick b s (startedOf 0 .state) .room) ≡ 8192
+      go true = long
+      go false = length-replicate {A = ℕ} 8192 0
+
+  -- It holds as many bytes as it counts as holding.
+  pub length-held : length (s .room) ≡ 8192 → length (heldOf s) ≡ countOf s
+  unfolding heldOf
+  length-held long = length-take-le (countOf s) (countsAs s .room) (omega (arith, counted .0, counted .1, counts-long long))
 
 -- A state that can be counts as itself.
-module _ (s : State) (narrow : s .width ≤ 64) (few : s .held ≤ bodySize (s .width)) where
+module _ (s : State) (within : Limits s) where
   can-be : canBe (s .width) (s .held) ≡ true
-  can-be = simp (le-leb (s .width) 64 narrow, le-leb (s .held) (bodySize (s .width)) few)
-
-  pub width-itself : widthOf s ≡ s .width
-  unfolding widthOf
-  width-itself = ap (λ b. pick b (s .width) 0) can-be
-
-  pub count-itself : countOf s ≡ s .held
-  unfolding countOf
-  count-itself = ap (λ b. pick b (s .held) 0) can-be
+  can-be = simp (le-leb (s .width) 64 (within .0), le-leb (s .held) (bodySize (s .width)) (within .1))
 
   pub itself : countsAs s ≡ s
   unfolding countsAs
-  itself = λ i. record { width = width-itself i; held = count-itself i; room = s .room }
+  itself = ap (λ b. pick b s (startedOf 0 .state)) can-be
+
+-- So does the state that a state counts as.
+pub counts-twice : (s : State) → countsAs (countsAs s) ≡ countsAs s
+counts-twice s = itself (countsAs s) (counted s)
 
 -- More bytes than the body has cannot be held, at any width.
 pub too-many : (w h : ℕ) → bodySize w < h → canBe w h ≡ false
@@ -65,26 +66,12 @@ too-many w h g =
       | no other ↦ let wide : 64 < w = omega arith in simp (lt-leb w 64 wide)
     ]
 
--- One that cannot be counts as the state of width 0 with nothing held.
-pub none : (s : State) → canBe (s .width) (s .held) ≡ false → (widthOf s ≡ 0) × (heldOf s ≡ [])
-unfolding widthOf heldOf countOf
-none s e = (ap (λ b. pick b (s .width) 0) e, ap (λ b. take (pick b (s .held) 0) (s .room)) e)
-
--- The state that a state counts as is one that can be, and it holds the same.
-module _ (s : State) where
-  pub counts-width : widthOf (countsAs s) ≡ widthOf s
+-- A state that cannot be counts as the state of width 0.
+module _ (s : State) (bad : canBe (s .width) (s .held) ≡ false) where
+  pub cannot-be : countsAs s ≡ startedOf 0 .state
   unfolding countsAs
-  counts-width = width-itself (countsAs s) (counted s .0) (counted s .1)
+  cannot-be = ap (λ b. pick b s (startedOf 0 .state)) bad
 
-  pub counts-count : countOf (countsAs s) ≡ countOf s
-  unfolding countsAs
-  counts-count = count-itself (countsAs s) (counted s .0) (counted s .1)
-
-  pub counts-held : heldOf (countsAs s) ≡ heldOf s
-  unfolding heldOf countsAs
-  counts-held = ap (λ n. take n (s .room)) counts-count
-
-  -- It holds as many bytes as it counts as holding.
-  pub length-held : length (s .room) ≡ 8192 → length (heldOf s) ≡ countOf s
-  unfolding heldOf
-  length-held long = length-take-le (countOf s) (s .room) (omega (arith, counted s .0, counted s .1, long))
+  pub cannot-width : widthOf s ≡ 0
+  unfolding startedOf trickleAnswer
+  cannot-width = ap (λ c. c .width) cannot-be

@@ -1,10 +1,11 @@
 -- The theorems of document 02's Item 10, said of what the calls give and leave: the cuts make no difference; a full state takes no more; when the body is
--- full, ask gives what unpack gives; the bytes past those held play no part; and when each number is given. The room of a state has 8,192 bytes; the
--- laws ask for this where they need it, and of a state in a program the prover knows it.
+-- full, ask gives what unpack gives; the bytes past those held play no part; feed and ask go by what a state counts as; when each number is given; and a
+-- state that cannot be is answered as that of a refused start. The room of a state has 8,192 bytes; the laws ask for this where they need it, and of a
+-- state in a program the prover knows it.
 -- Assumes nothing.
 use mathlib.Core.Bool.{false}
 use mathlib.Core.List.{List, [], _∷_, _++_}
-use mathlib.Core.Logic.{_↔_}
+use mathlib.Core.Logic.{_↔_, _⊎_, ⊎-elim}
 use mathlib.Core.Path.{_≡_, sym, ap, ap₂, subst, _∙_}
 use Prim.Native.Nat.{ℕ, _+_, _-_, _*_, _≤_, _<_, min}
 use native.Mathlib.Decide.{decLe, ℕ-discrete}
@@ -30,7 +31,7 @@ use Rattle.trickle.specs.Plain.{Reason, no-block, early, whole, wide, ov
 use Rattle.trickle.specs.Trickle.{bodySize, canBe, widthOf, countOf, heldOf, countsAs, startAnswer, startedOf, takenOf, stateAfter, fedOf, askAnswer, wordsOf, valuesOf, askLeaves, fedAll, bytesOfAll, Same}
 use Rattle.trickle.proofs.Answers.{start-wide, start-done, ask-block, ask-early, ask-done, left-refused}
 use Rattle.trickle.proofs.Feeds.{after-nothing, after-held, after-width, all-taken, all-after, all-long}
-use Rattle.trickle.proofs.States.{counted, width-itself, count-itself, itself, too-many, none, counts-width, counts-count, counts-held, length-held}
+use Rattle.trickle.proofs.States.{counted, length-held, itself, counts-twice, too-many, cannot-be, cannot-width}
 
 -- ---- the cuts make no difference
 
@@ -43,12 +44,17 @@ module _ (s : State) (long : length (s .room) ≡ 8192) (xs ys : List (List ℕ)
   pub cuts-taken : fedAll s xs .taken ≡ fedAll s ys .taken
   cuts-taken = all-taken s xs ∙ ap (takenOf s) same ∙ sym (all-taken s ys)
 
+-- the bytes held are those of the state that counts
+counts-held : (s : State) → heldOf (countsAs s) ≡ heldOf s
+unfolding heldOf
+counts-held s = ap (λ c. take (c .held) (c .room)) (counts-twice s)
+
 -- However they are cut, the bytes held after all chunks are those held before with all the bytes behind them, up to the length of the body.
 pub all-held : (s : State) → length (s .room) ≡ 8192 → (chunks : List (List ℕ))
     → (widthOf (fedAll s chunks .state) ≡ widthOf s) × (heldOf (fedAll s chunks .state) ≡ take (bodySize (widthOf s)) (heldOf s ++ bytesOfAll chunks))
 all-held s long chunks =
     let last = fedAll s chunks .state in (
-      sym (counts-width last) ∙ ap widthOf (all-after s long chunks) ∙ after-width s (bytesOfAll chunks),
+      ap (λ c. c .width) (sym (counts-twice last)) ∙ ap widthOf (all-after s long chunks) ∙ after-width s (bytesOfAll chunks),
       sym (counts-held last) ∙ ap heldOf (all-after s long chunks) ∙ after-held s (bytesOfAll chunks) long,
     )
 
@@ -64,9 +70,9 @@ full-fed s full chunk =
 -- Of a state that can be, that is the state itself: nothing is changed.
 pub full-kept : (s : State) → s .width ≤ 64 → s .held ≡ bodySize (s .width) → (chunk : List ℕ) → (fedOf s chunk .taken ≡ 0) × (fedOf s chunk .state ≡ s)
 full-kept s narrow full chunk =
-    let few : s .held ≤ bodySize (s .width) = omega arith in
-    let fed = full-fed s (count-itself s narrow few ∙ full ∙ ap bodySize (sym (width-itself s narrow few))) chunk in
-    (fed .0, fed .1 ∙ itself s narrow few)
+    let same = itself s (narrow, omega arith) in
+    let fed = full-fed s (ap (λ c. c .held) same ∙ full ∙ ap (λ c. bodySize (c .width)) (sym same)) chunk in
+    (fed .0, fed .1 ∙ same)
 
 -- ---- ask gives what unpack gives
 
@@ -130,20 +136,33 @@ module _ (a b : State) (la : length (a .room) ≡ 8192) (lb : length (b .room) �
   unfolding askLeaves valuesOf wordsOf
   same-leaves output = λ i. left (same-answer output i) (unpackOf t64 (same .width i) (numbersOf 8 (same .bytes i) (lanes t64 * same .width i))) output
 
--- A state counts as one that holds the same,
-pub same-counts : (s : State) → Same (countsAs s) s
-same-counts s = record { width = counts-width s; bytes = counts-held s }
+-- ---- feed and ask go by what a state counts as
 
--- and a feed gives the same of both, to the last byte of the room.
-pub counts-fed : (s : State) (chunk : List ℕ) → fedOf (countsAs s) chunk ≡ fedOf s chunk
-unfolding fedOf stateAfter takenOf countsAs
-counts-fed s chunk =
-    let taken : takenOf (countsAs s) chunk ≡ takenOf s chunk =
-    ap₂ (λ w n. min (length chunk) (bodySize w - n)) (counts-width s) (counts-count s) in
-    λ i. record {
-      taken = taken i;
-      state = record { width = counts-width s i; held = counts-count s i + taken i; room = over (counts-count s i) (take (taken i) chunk) (s .room) };
-    }
+-- A state and the one that it counts as are answered the same: by feed, to the last byte of the room,
+module _ (s : State) where
+  pub counts-fed : (chunk : List ℕ) → fedOf (countsAs s) chunk ≡ fedOf s chunk
+  unfolding fedOf stateAfter takenOf
+  counts-fed chunk =
+      let taken : State → ℕ = λ c. min (length chunk) (bodySize (c .width) - c .held) in
+      λ i. record {
+        taken = taken (counts-twice s i);
+        state = record {
+          width = counts-twice s i .width;
+          held = counts-twice s i .held + taken (counts-twice s i);
+          room = over (counts-twice s i .held) (take (taken (counts-twice s i)) chunk) (counts-twice s i .room);
+        };
+      }
+
+  -- and by ask.
+  pub counts-answer : (output : List ℕ) → askAnswer (countsAs s) output ≡ askAnswer s output
+  unfolding askAnswer
+  counts-answer output = ap (λ c. trickleAnswer (a-block output ∷ all-there (bodySize (c .width)) (c .held) ∷ [])) (counts-twice s)
+
+  pub counts-leaves : (output : List ℕ) → askLeaves (countsAs s) output ≡ askLeaves s output
+  unfolding askLeaves valuesOf wordsOf heldOf
+  counts-leaves output =
+      ap₂ (λ a c. left a (unpackOf t64 (c .width) (numbersOf 8 (take (c .held) (c .room)) (lanes t64 * c .width))) output)
+      (counts-answer output) (counts-twice s)
 
 -- ---- when each number is given
 
@@ -178,16 +197,16 @@ module _ (w : ℕ) where
 module _ (s : State) (output : List ℕ) where
   -- a state that cannot be counts as one of width 0, which is full
   cannot : length output ≡ 1024 → canBe (s .width) (s .held) ≡ false → askAnswer s output ≡ Done
-  cannot o e = ask-done s output o (omega (arith, none s e .0))
+  cannot o e = ask-done s output o (omega (arith, cannot-width s e))
 
   by-reason : {a : TrickleAnswer} → Reason s output a → askAnswer s output ≡ a
   by-reason (no-block o) = ask-block s output o
   by-reason (early o w h) =
-      let few : s .held ≤ bodySize (s .width) = omega arith in
-      ask-early s output o (omega (arith, width-itself s w few, count-itself s w few)) ∙ ap Early (count-itself s w few)
+      let same = itself s (w, omega arith) in
+      ask-early s output o (omega (arith, ap (λ c. c .width) same, ap (λ c. c .held) same)) ∙ ap (λ c. Early (c .held)) same
   by-reason (whole o w h) =
-      let few : s .held ≤ bodySize (s .width) = omega arith in
-      ask-done s output o (omega (arith, width-itself s w few, count-itself s w few))
+      let same = itself s (w, omega arith) in
+      ask-done s output o (omega (arith, ap (λ c. c .width) same, ap (λ c. c .held) same))
   by-reason (wide o w) = cannot o (simp (lt-leb (s .width) 64 w))
   by-reason (overfull o h) = cannot o (too-many (s .width) (s .held) h)
 
@@ -216,6 +235,25 @@ module _ (s : State) (output : List ℕ) where
   pub ask-reason : (a : TrickleAnswer) → (askAnswer s output ≡ a) ↔ Reason s output a
   ask-reason a = (λ e. subst (Reason s output) e reason, by-reason)
 
+-- ---- a state that cannot be
+
+-- A state handed in with a width above 64, or with more bytes held than its body has, counts as the state of a refused start,
+module _ (s : State) (bad : (64 < s .width) ⊎ (128 * s .width < s .held)) (w : ℕ) (refused : 64 < w) where
+  pub bad-counts : countsAs s ≡ startedOf w .state
+  bad-counts =
+      cannot-be s (⊎-elim (λ h. simp (lt-leb (s .width) 64 h)) (too-many (s .width) (s .held)) bad) ∙ sym (refused-start w refused)
+
+  -- so both are fed the same, in what is taken and in every field of the state that is given back,
+  pub bad-fed : (chunk : List ℕ) → fedOf s chunk ≡ fedOf (startedOf w .state) chunk
+  bad-fed chunk = sym (counts-fed s chunk) ∙ ap (λ c. fedOf c chunk) bad-counts
+
+  -- and an ask gives and leaves the same.
+  pub bad-answer : (output : List ℕ) → askAnswer s output ≡ askAnswer (startedOf w .state) output
+  bad-answer output = sym (counts-answer s output) ∙ ap (λ c. askAnswer c output) bad-counts
+
+  pub bad-leaves : (output : List ℕ) → askLeaves s output ≡ askLeaves (startedOf w .state) output
+  bad-leaves output = sym (counts-leaves s output) ∙ ap (λ c. askLeaves c output) bad-counts
+
 -- ---- from the start to the values
 
 -- A body of width w comes in chunks: this is the state after all of them.
@@ -235,8 +273,8 @@ module _ (w : ℕ) (narrow : w ≤ 64) where
   unfolding startedOf heldOf
   started =
       let s = startedOf w .state in
-      let small : s .width ≤ 64 = omega (arith, started-width, narrow) in
-      (width-itself s small (omega arith) ∙ started-width, ap (λ n. take n (s .room)) (count-itself s small (omega arith)))
+      let same = itself s (omega (arith, started-width, narrow), omega arith) in
+      (ap (λ c. c .width) same ∙ started-width, ap (λ c. take (c .held) (c .room)) same)
 
   module _ (chunks : List (List ℕ)) where
     -- It holds the first 128·w bytes of the chunks.

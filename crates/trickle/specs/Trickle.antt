@@ -21,28 +21,6 @@ use Rattle.trickle.specs.Answers.{a-width, a-block, all-there, trickleAn
 abbrev pub bodySize : (w : ℕ) → ℕ
 bodySize w = 128 * w
 
--- ---- what a state counts as
-
--- This test says that a state can be the state of a body: its width is at most 64, and it holds no more bytes than the body has.
-abbrev pub canBe : (width held : ℕ) → Bool
-canBe width held = both (leb width 64) (leb held (bodySize width))
-
--- A state that cannot be counts as the state of width 0 with nothing held. So this is the width that a state counts as having,
-unfoldable pub widthOf : (s : State) → ℕ
-widthOf s = pick (canBe (s .width) (s .held)) (s .width) 0
-
--- this is how many bytes it counts as holding,
-unfoldable pub countOf : (s : State) → ℕ
-countOf s = pick (canBe (s .width) (s .held)) (s .held) 0
-
--- and these are the bytes that it holds: they stand at the front of its room.
-unfoldable pub heldOf : (s : State) → List ℕ
-heldOf s = take (countOf s) (s .room)
-
--- This is the state that it counts as.
-unfoldable pub countsAs : (s : State) → State
-countsAs s = record { width = widthOf s; held = countOf s; room = s .room }
-
 -- ---- start
 
 -- A start tests the width.
@@ -56,19 +34,41 @@ startedOf w = record {
   state = record { width = left (startAnswer w) w 0; held = 0; room = replicate 8192 0 };
 }
 
+-- ---- what a state counts as
+
+-- This test says that a state can be the state of a body: its width is at most 64, and it holds no more bytes than the body has.
+abbrev pub canBe : (width held : ℕ) → Bool
+canBe width held = both (leb width 64) (leb held (bodySize width))
+
+-- A state that can be counts as itself, and one that cannot be as the state of width 0, which is the one that a refused start gives.
+unfoldable pub countsAs : (s : State) → State
+countsAs s = pick (canBe (s .width) (s .held)) s (startedOf 0 .state)
+
+-- So this is the width that a state counts as having,
+abbrev pub widthOf : (s : State) → ℕ
+widthOf s = countsAs s .width
+
+-- this is how many bytes it counts as holding,
+abbrev pub countOf : (s : State) → ℕ
+countOf s = countsAs s .held
+
+-- and these are the bytes: they stand at the front of the room.
+unfoldable pub heldOf : (s : State) → List ℕ
+heldOf s = take (countOf s) (countsAs s .room)
+
 -- ---- feed
 
 -- A feed takes the chunk, or what the body still lacks, whichever is shorter.
 unfoldable pub takenOf : (s : State) (chunk : List ℕ) → ℕ
 takenOf s chunk = min (length chunk) (bodySize (widthOf s) - countOf s)
 
--- It gives the state that this one counts as, with the bytes that were taken written behind those held. All other bytes of the room are as they
--- were.
+-- It gives the state that this one counts as, with the bytes that were taken written behind those held. All other bytes of that state's room are as
+-- they were.
 unfoldable pub stateAfter : (s : State) (chunk : List ℕ) → State
 stateAfter s chunk = record {
   width = widthOf s;
   held = countOf s + takenOf s chunk;
-  room = over (countOf s) (take (takenOf s chunk) chunk) (s .room);
+  room = over (countOf s) (take (takenOf s chunk) chunk) (countsAs s .room);
 }
 
 -- It says how many bytes it took.

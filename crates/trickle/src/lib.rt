@@ -2,19 +2,18 @@
 // the body are all there, the state is asked for the values.
 //
 // A state is a struct with public fields, so that one may be handed in that no start gave. One that cannot be the state of a body
-// counts as the state of width 0 with nothing held, and the three calls go by what it counts as.
+// counts as the state that a refused start gives, and feed and ask go by the state that counts.
 use little::read_words;
 use packing::t64::unpack;
 ghost use mathlib.Core.Path.{_≡_};
 ghost use Prim.Native.Nat.{_+_, _*_, _≤_, min};
 ghost use lib.ListN.{length, take};
-ghost use Rattle.places.specs.Pick.{pick};
 ghost use Rattle.places.specs.Sizes.{t64};
 ghost use Rattle.places.specs.Tab.{over};
 ghost use Rattle.packing.specs.Packed.{unpackOf};
 ghost use Rattle.little.specs.Little.{numbersOf};
 ghost use Rattle.trickle.specs.Answers.{numberOf, placeOf};
-ghost use Rattle.trickle.specs.Trickle.{canBe, startedOf, fedOf, askAnswer, askLeaves};
+ghost use Rattle.trickle.specs.Trickle.{canBe, countsAs, startedOf, fedOf, askAnswer, askLeaves};
 
 // What start and ask answer: that the call is done, or why it is refused.
 pub enum TrickleAnswer {
@@ -102,10 +101,11 @@ pub fn start(width: usize) -> Started
 pub fn feed(state: State, chunk: &[u8]) -> Fed
     ensures { λ r. ⌜ r ≡ fedOf state (now (chunk .entry)) ⌝ }
 {
-    let width = if_can_be(state.width, state.held, state.width);
-    let held = if_can_be(state.width, state.held, state.held);
+    let counts = counted(state);
+    let width = counts.width;
+    let held = counts.held;
     let taken = shorter(chunk.len(), 128 * width - held);
-    let mut room = state.room;
+    let mut room = counts.room;
     copy_in(&mut room, held, chunk, taken);
     Fed {
         taken,
@@ -122,27 +122,29 @@ pub fn ask(state: State, output: &mut [u64]) -> TrickleAnswer
     ensures { λ r. ⌜ r ≡ askAnswer state (now (output .entry)) ⌝ }
     ensures { λ _. ⌜ now (output .exit) ≡ askLeaves state (now (output .entry)) ⌝ }
 {
-    let width = if_can_be(state.width, state.held, state.width);
-    let held = if_can_be(state.width, state.held, state.held);
+    let counts = counted(state);
+    let width = counts.width;
+    let held = counts.held;
     if output.len() != 1024 {
         return TrickleAnswer::Block;
     }
     if held < 128 * width {
         return TrickleAnswer::Early(held);
     }
-    let room = state.room;
+    let room = counts.room;
     values_out(width, &room[..held], output);
     TrickleAnswer::Done
 }
 
-// The number n of a state of this width with so many bytes held; 0 where there can be no such state.
-fn if_can_be(width: usize, held: usize, n: usize) -> usize
-    ensures { λ r. ⌜ r ≡ pick (canBe width held) n 0 ⌝ }
+// The state that this one counts as: itself, or that of a refused start where there can be no such state.
+fn counted(state: State) -> State
+    ensures { λ r. ⌜ r ≡ countsAs state ⌝ }
 {
-    if can_be(width, held) {
-        return n;
+    if can_be(state.width, state.held) {
+        return state;
     }
-    0
+    let none = start(0);
+    none.state
 }
 
 // Whether there can be a state of this width with so many bytes held.

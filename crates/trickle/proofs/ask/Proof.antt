@@ -1,6 +1,6 @@
 -- `trickle::ask` meets its contract: by what the state counts as, test by test.
 -- Assumes nothing.
-use mathlib.Core.Path.{_≡_, sym, ap, ap₂, _∙_}
+use mathlib.Core.Path.{_≡_, sym, ap, _∙_}
 use Prim.Native.Nat.{_*_, _≤_}
 use native.Mathlib.Omega.{arith}
 use denote.Ref.{now}
@@ -13,43 +13,41 @@ use Rattle.packing.specs.Packed.{unpackOf}
 use Rattle.little.specs.Little.{numbersOf}
 use Rattle.trickle.specs.declared.TrickleAnswer.the-variants.{Early}
 use Rattle.trickle.specs.Trickle.{heldOf, wordsOf, valuesOf}
-use Rattle.trickle.proofs.States.{Numbers, numbers}
+use Rattle.trickle.proofs.States.{Limits, counted-as}
 use Rattle.trickle.proofs.Answers.{ask-block, ask-early, ask-done, refused, done}
 use Rattle.trickle.proofs.ask.Statement.{statement}
 use Rattle.trickle.proofs.ask.Tie as tie
 
--- what the state counts as,
-known : (c : tie.After-if-can-be2) → Numbers (c .before .before .before .args .state) (c .before .if-can-be .result) (c .if-can-be2 .result)
-known c = numbers (c .before .before .before .args .state) _ _ (c .before .if-can-be .ensures) (c .if-can-be2 .ensures)
+-- the limits of the state that counts,
+known : (c : tie.After-counted) → Limits (c .counted .result)
+known c = counted-as (c .before .before .args .state) (c .counted .ensures)
 
 -- and that its room has place for the bytes held
-held-within : (c : tie.After-if-can-be2) → c .if-can-be2 .result ≤ length (c .before .before .before .args .state .room)
+held-within : (c : tie.After-counted) → c .counted .result .held ≤ length (c .counted .result .room)
 held-within c =
-    let long : length (c .before .before .before .args .state .room) ≡ 8192 = search needs in
-    omega (arith, long, known c .narrow, known c .within)
+    let long : length (c .counted .result .room) ≡ 8192 = search needs in
+    omega (arith, long, known c .0, known c .1)
 
-if-can-be-requires : tie.Need-if-can-be-requires
-if-can-be-requires c κs = search needs
-
-if-can-be-requires-2 : tie.Need-if-can-be-requires-2
-if-can-be-requires-2 c κs = search needs
+counted-requires : tie.Need-counted-requires
+counted-requires c κs = search needs
 
 returns : tie.Need-returns
 returns c =
-    let args = c .before .before .before .before .args in
+    let args = c .before .before .before .args in
     refused (args .state) (now (args .output)) (ask-block (args .state) (now (args .output)) (c .if1 .taken)) number-apart
 
 mul-if2 : tie.Need-mul-if2
-mul-if2 c = omega (arith, known (c .before) .narrow)
+mul-if2 c = omega (arith, known (c .before) .0)
 
 returns-2 : tie.Need-returns-2
 returns-2 c =
-    let second = c .before .before in
-    let args = second .before .before .before .args in
-    let is = known second in
+    let call = c .before .before in
+    let args = call .before .before .args in
+    let counts = call .counted .ensures in
+    let few = ap (λ s. s .held) counts in
     let given = refused (args .state) (now (args .output))
-    (ask-early (args .state) (now (args .output)) (c .before .if1 .left) (omega (arith, c .if2 .taken, is .width, is .count))) number-apart in
-    (ap Early (is .count) ∙ given .0, given .1)
+    (ask-early (args .state) (now (args .output)) (c .before .if1 .left) (omega (arith, c .if2 .taken, few, ap (λ s. s .width) counts))) number-apart in
+    (ap Early few ∙ given .0, given .1)
 
 array-share-prefix-room : tie.Need-array-share-prefix-room
 array-share-prefix-room c = held-within (c .before .before .before)
@@ -60,9 +58,9 @@ slice-aggregate-values-out c = sym (length-take-le _ _ (held-within (c .before .
 values-out-requires : tie.Need-values-out-requires
 values-out-requires c κs =
     let arm = c .before .before .before in
-    let second = arm .before .before in
-    let all : second .if-can-be2 .result ≡ 128 * second .before .if-can-be .result = omega (arith, known second .within, arm .if2 .left) in
-    (known second .narrow, (length-take-le _ _ (held-within second) ∙ all, search needs))
+    let call = arm .before .before in
+    let all : call .counted .result .held ≡ 128 * call .counted .result .width = omega (arith, known call .1, arm .if2 .left) in
+    (known call .0, (length-take-le _ _ (held-within call) ∙ all, search needs))
 
 same-length : tie.Need-same-length
 same-length c = search needs
@@ -70,21 +68,21 @@ same-length c = search needs
 returns-3 : tie.Need-returns-3
 unfolding valuesOf wordsOf heldOf
 returns-3 c =
-    let call = c .before .before in
-    let arm = call .before .before .before .before in
-    let second = arm .before .before in
-    let args = second .before .before .before .args in
-    let is = known second in
+    let out = c .before .before in
+    let arm = out .before .before .before .before in
+    let call = arm .before .before in
+    let args = call .before .before .args in
+    let counts = call .counted .ensures in
     done (args .state) (now (args .output))
-    (ask-done (args .state) (now (args .output)) (arm .before .if1 .left) (omega (arith, arm .if2 .left, is .width, is .count)))
-    (call .values-out .ensures ∙ ap₂ (λ w h. unpackOf t64 w (numbersOf 8 (take h (args .state .room)) (16 * w))) (is .width) (is .count))
+    (ask-done (args .state) (now (args .output)) (arm .before .if1 .left)
+    (omega (arith, arm .if2 .left, ap (λ s. s .held) counts, ap (λ s. s .width) counts)))
+    (out .values-out .ensures ∙ ap (λ s. unpackOf t64 (s .width) (numbersOf 8 (take (s .held) (s .room)) (16 * s .width))) counts)
 
 pub ask-spec : {M : Type 1} → statement M
 ask-spec =
     tie.close
     (tie.spec
-    if-can-be-requires
-    if-can-be-requires-2
+    counted-requires
     returns
     mul-if2
     returns-2
