@@ -1,17 +1,18 @@
--- What the calls on a drawer answer, by the tests that they make.
+-- What the calls on a drawer answer: by the tests that they make, and each answer exactly when there is the reason for it.
 -- Assumes nothing.
-use mathlib.Core.Path.{_≡_, ap}
-use mathlib.Core.List.{List, [], _∷_}
+use mathlib.Core.Logic.{_↔_, inl, inr}
+use mathlib.Core.Path.{_≡_, sym, subst, _∙_}
+use mathlib.Core.List.{List}
 use Prim.Native.Nat.{ℕ, _*_, _≤_, _<_}
+use native.Mathlib.Decide.{decLe, ℕ-discrete}
+use native.Mathlib.Omega.{arith}
 use lib.ListN.{length}
-use lib.Dec.{eqb, leb}
-use borrow.Author.Tests.{le-leb, lt-leb, eq-eqb, ne-eqb, leb-true, eqb-true}
+use borrow.Author.Tests.{le-leb, lt-leb, eq-eqb, ne-eqb}
+use Rattle.places.specs.declared.Answer.{Answer}
 use Rattle.places.specs.declared.Answer.the-variants.{Done, Width, Block, Packed}
-use Rattle.places.specs.Answers.{numberOf}
 use Rattle.places.specs.Sizes.{lanes}
-use Rattle.places.proofs.Answers.{number-apart, first-passed}
-use Rattle.places.proofs.Tests.{both-true}
-use Rattle.drawers.specs.Drawers.{Drawn, a-width, blocks, packed-blocks, passes, refusal, drawerAnswer}
+use Rattle.drawers.specs.Drawers.{drawerAnswer}
+use Rattle.drawers.specs.Plain.{Fits, DrawerReason, too-wide, no-blocks, no-packed, fits}
 
 module _ (t w m : ℕ) (values packed : List ℕ) where
   pub bad-width : t < w → drawerAnswer t w m values packed ≡ Width
@@ -34,30 +35,42 @@ module _ (t w m : ℕ) (values packed : List ℕ) where
   unfolding drawerAnswer
   good-drawer h g e f = simp (le-leb w t h, le-leb m 256 g, eq-eqb (length values) (m * 1024) e, eq-eqb (length packed) (m * (lanes t * w)) f)
 
--- A drawer that is done was taken: its width, its number of blocks, its values and its packed words.
-pub record Fits (t w m : ℕ) (values packed : List ℕ) : Type 0 where
-  pub narrow : w ≤ t
-  pub few : m ≤ 256
-  pub whole : length values ≡ m * 1024
-  pub full : length packed ≡ m * (lanes t * w)
+  -- The reason gives the answer,
+  gives : {a : Answer} → DrawerReason t w m values packed a → drawerAnswer t w m values packed ≡ a
+  gives (too-wide h) = bad-width h
+  gives (no-blocks h (inl many)) = too-many h many
+  gives (no-blocks h (inr other)) =
+      elim (decLe m 256) [
+        | yes few ↦ bad-blocks h few other
+        | no many ↦ too-many h (omega arith)
+      ]
+  gives (no-packed h few whole other) = bad-packed h few whole other
+  gives (fits f) = good-drawer (f .narrow) (f .few) (f .whole) (f .full)
 
-no-refusal : (x : Drawn) → refusal x ≡ Done → ⊥
-no-refusal (a-width t w) e = number-apart (ap numberOf e)
-no-refusal (blocks m values) e = number-apart (ap numberOf e)
-no-refusal (packed-blocks t w m words) e = number-apart (ap numberOf e)
+  -- and there always is one.
+  reason : (a : Answer) × DrawerReason t w m values packed a
+  reason =
+      elim (decLe w t) [
+        | no wide ↦ (Width, too-wide (omega arith))
+        | yes h ↦ elim (decLe m 256) [
+          | no many ↦ (Block, no-blocks h (inl (omega arith)))
+          | yes few ↦ elim (ℕ-discrete (length values) (m * 1024)) [
+            | no other ↦ (Block, no-blocks h (inr other))
+            | yes whole ↦ elim (ℕ-discrete (length packed) (m * (lanes t * w))) [
+              | no other ↦ (Packed, no-packed h few whole other)
+              | yes full ↦ (Done, fits (record { narrow = h; few = few; whole = whole; full = full }))
+            ]
+          ]
+        ]
+      ]
 
-pub drawer-taken : (t w m : ℕ) (values packed : List ℕ) → drawerAnswer t w m values packed ≡ Done → Fits t w m values packed
-unfolding drawerAnswer
-drawer-taken t w m values packed e =
-    let third = packed-blocks t w m packed ∷ [] in
-    let second = blocks m values ∷ third in
-    let one = first-passed passes refusal Done (a-width t w) second (no-refusal (a-width t w)) e in
-    let two = first-passed passes refusal Done (blocks m values) third (no-refusal (blocks m values)) (one .1) in
-    let three = first-passed passes refusal Done (packed-blocks t w m packed) [] (no-refusal (packed-blocks t w m packed)) (two .1) in
-    let both = both-true (leb m 256) (eqb (length values) (m * 1024)) (two .0) in
-    record {
-      narrow = leb-true w t (one .0);
-      few = leb-true m 256 (both .0);
-      whole = eqb-true (length values) (m * 1024) (both .1);
-      full = eqb-true (length packed) (m * (lanes t * w)) (three .0);
-    }
+  -- Each answer is given exactly when document 02 gives the reason.
+  pub drawer-exactly : (a : Answer) → (drawerAnswer t w m values packed ≡ a) ↔ DrawerReason t w m values packed a
+  drawer-exactly a = ((λ e. subst (DrawerReason t w m values packed) (sym (gives (reason .1)) ∙ e) (reason .1)), gives)
+
+  -- A drawer that is done fits.
+  pub drawer-taken : drawerAnswer t w m values packed ≡ Done → Fits t w m values packed
+  drawer-taken e = go (drawer-exactly Done .0 e)
+    where
+      go : DrawerReason t w m values packed Done → Fits t w m values packed
+      go (fits f) = f

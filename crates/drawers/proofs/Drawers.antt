@@ -1,35 +1,47 @@
 -- The theorems of document 02's Item 7, said of what the calls answer and leave: each block of a drawer is the single call's result on that block; a
--- drawer is done exactly when each single call would be; a drawer of one block is the single call; and a drawer in two is two drawers.
+-- drawer of equal parts is answered as each single call is; a drawer of one block is the single call; and a drawer in two is two drawers.
 -- Assumes nothing.
 use mathlib.Core.List.{List, [], _∷_, _++_}
 use mathlib.Core.Path.{_≡_, refl, sym, ap, ap₂, subst, _∙_}
 use Prim.Native.Nat.{ℕ, _+_, _*_, _/_, _≤_, _<_}
-use native.Mathlib.Decide.{decLe}
+use native.Mathlib.Decide.{decLe, ℕ-discrete}
 use native.Mathlib.Nat.{add-mul, mul-comm, one-mul}
 use native.Mathlib.Omega.{arith}
 use lib.Arith.{digits-div}
 use lib.ListN.{length, take, drop, length-drop}
 use lib.Seq.{length-take-le}
-use borrow.Author.Tests.{leb-true, eqb-true}
 use Rattle.places.specs.declared.Answer.{Answer}
 use Rattle.places.specs.declared.Answer.the-variants.{Done}
 use Rattle.places.specs.Answers.{numberOf, left}
 use Rattle.places.specs.Parts.{cut, joined}
 use Rattle.places.specs.Sizes.{lanes}
 use Rattle.places.specs.Takes.{answerFor}
-use Rattle.places.proofs.Answers.{left-refused, number-done, first-passes}
+use Rattle.places.proofs.Answers.{left-refused, number-done}
 use Rattle.places.proofs.Parts.{length-cut}
 use Rattle.packing.specs.Calls.{packTakes, unpackLeaves}
 use Rattle.packing.specs.Packed.{unpackOf}
-use Rattle.packing.proofs.Answers.{good-block, unpack-leaves}
+use Rattle.packing.proofs.Answers.{bad-block, good-block, unpack-leaves, bad-width as block-width, bad-packed as block-packed}
 use Rattle.packing.proofs.Rounds.{length-unpack}
 use Rattle.deltas.specs.Calls.{forPackLeaves}
 use Rattle.deltas.specs.Deltas.{forPackOf}
 use Rattle.deltas.proofs.Answers.{for-pack-leaves}
 use Rattle.deltas.proofs.Lanes.{length-for-pack}
 use Rattle.drawers.specs.Drawers.{drawerAnswer, eachPart, unpackBlocksOf, forPackBlocksOf, unpackBlocksLeaves, forPackBlocksLeaves}
-use Rattle.drawers.proofs.Answers.{Fits, drawer-taken, good-drawer}
+use Rattle.drawers.specs.Plain.{Fits}
+use Rattle.drawers.proofs.Answers.{bad-width, bad-blocks, bad-packed, good-drawer, drawer-taken}
 use Rattle.drawers.proofs.Parts.{part-within, cut-all, each-part, each-split}
+
+-- ---- refused
+
+-- A refused call leaves its buffer as it was.
+module _ (t w m : ℕ) (values packed : List ℕ) (h : numberOf (drawerAnswer t w m values packed) ≡ 0 → ⊥) where
+  pub unpack-refused : unpackBlocksLeaves t w m values packed ≡ values
+  unfolding unpackBlocksLeaves
+  unpack-refused = left-refused (drawerAnswer t w m values packed) _ values h
+
+  pub for-pack-refused : (reference : ℕ) → forPackBlocksLeaves t w m values packed reference ≡ packed
+  unfolding forPackBlocksLeaves
+  for-pack-refused reference = left-refused (drawerAnswer t w m values packed) _ packed h
 
 -- ---- block by block
 
@@ -44,11 +56,7 @@ module _ (t w m : ℕ) (values packed : List ℕ) (done : drawerAnswer t w m val
     long-packed : length (cut (lanes t * w) packed b) ≡ lanes t * w
     long-packed = length-cut (lanes t * w) packed b (omega (arith, part-within b m (lanes t * w) h, fits .full))
 
-    -- The single call on block b is done,
-    pub block-done : answerFor (packTakes t w (cut 1024 values b) (cut (lanes t * w) packed b)) ≡ Done
-    block-done = good-block t w (cut 1024 values b) (cut (lanes t * w) packed b) (fits .narrow) long-values long-packed
-
-    -- and block b of what the drawer leaves is what it leaves: by unpack,
+    -- Block b of what the drawer leaves is what the single call on block b leaves: by unpack,
     pub unpack-block : cut 1024 (unpackBlocksLeaves t w m values packed) b ≡ unpackLeaves t w (cut 1024 values b) (cut (lanes t * w) packed b)
     unfolding unpackBlocksLeaves unpackBlocksOf
     unpack-block =
@@ -70,21 +78,73 @@ equal-parts : (m n k : ℕ) → 1 ≤ m → m * n ≡ m * k → n ≡ k
 equal-parts m n k some e =
     sym (digits-div n some) ∙ ap (λ x. (x + 0) / m) (mul-comm n m ∙ e ∙ mul-comm m k) ∙ digits-div k some
 
--- Values cut into m parts of 1,024 and packed words cut into m equal parts are a drawer that is done exactly when each single call would be.
-module _ (t w m n : ℕ) (values packed : List ℕ) (some : 1 ≤ m) (few : m ≤ 256) (ev : length values ≡ m * 1024) (ep : length packed ≡ m * n) where
-  pub each-done : drawerAnswer t w m values packed ≡ Done → (b : ℕ) → b < m → answerFor (packTakes t w (cut 1024 values b) (cut n packed b)) ≡ Done
-  each-done done b h =
-      let same = equal-parts m n (lanes t * w) some (sym ep ∙ drawer-taken t w m values packed done .full) in
-      ap (λ n. answerFor (packTakes t w (cut 1024 values b) (cut n packed b))) same ∙ block-done t w m values packed done b h
+-- From one block to 256, with values and packed words that are m parts of equal length each: the drawer has the whole answer of the single call on any of
+-- the parts, number and place, whether that is a refusal or not.
+module _ (t w m k n : ℕ) (values packed : List ℕ) (few : m ≤ 256) (ev : length values ≡ m * k) (ep : length packed ≡ m * n) (b : ℕ) (h : b < m) where
+  some : 1 ≤ m
+  some = omega arith
 
-  pub all-done : ((b : ℕ) → b < m → answerFor (packTakes t w (cut 1024 values b) (cut n packed b)) ≡ Done) → drawerAnswer t w m values packed ≡ Done
-  all-done each =
-      let first = first-passes _ _ (each 0 (omega arith)) in
-      let second = first-passes _ _ (first .1) in
-      let third = first-passes _ _ (second .1) in
-      let whole : length (cut n packed 0) ≡ n = length-cut n packed 0 (omega (arith, ep, part-within 0 m n (omega arith))) in
-      let same : n ≡ lanes t * w = sym whole ∙ eqb-true (length (cut n packed 0)) (lanes t * w) (third .0) in
-      good-drawer t w m values packed (leb-true w t (first .0)) few ev (ep ∙ ap (λ n. m * n) same)
+  value-part : length (cut k values b) ≡ k
+  value-part = length-cut k values b (omega (arith, part-within b m k h, ev))
+
+  packed-part : length (cut n packed b) ≡ n
+  packed-part = length-cut n packed b (omega (arith, part-within b m n h, ep))
+
+  pub each-answer : drawerAnswer t w m values packed ≡ answerFor (packTakes t w (cut k values b) (cut n packed b))
+  each-answer =
+      elim (decLe w t) [
+        | no wide ↦ bad-width t w m values packed (omega arith) ∙ sym (block-width t w _ _ (omega arith))
+        | yes g ↦ elim (ℕ-discrete k 1024) [
+          | no other ↦
+              bad-blocks t w m values packed g few (λ e. other (equal-parts m k 1024 some (sym ev ∙ e)))
+              ∙ sym (bad-block t w _ _ g (λ e. other (sym value-part ∙ e)))
+          | yes same ↦ elim (ℕ-discrete n (lanes t * w)) [
+            | no other ↦
+                bad-packed t w m values packed g few (ev ∙ ap (λ k. m * k) same) (λ e. other (equal-parts m n (lanes t * w) some (sym ep ∙ e)))
+                ∙ sym (block-packed t w _ _ g (value-part ∙ same) (λ e. other (sym packed-part ∙ e)))
+            | yes full ↦
+                good-drawer t w m values packed g few (ev ∙ ap (λ k. m * k) same) (ep ∙ ap (λ n. m * n) full)
+                ∙ sym (good-block t w _ _ g (value-part ∙ same) (packed-part ∙ full))
+          ]
+        ]
+      ]
+
+  -- what holds where both are done, and where both are refused
+  by-answer : {P : Type 0} → (drawerAnswer t w m values packed ≡ Done → k ≡ 1024 → n ≡ lanes t * w → P)
+      → ((numberOf (drawerAnswer t w m values packed) ≡ 0 → ⊥) → (numberOf (answerFor (packTakes t w (cut k values b) (cut n packed b))) ≡ 0 → ⊥) → P) → P
+  by-answer done refused =
+      elim (decLe (numberOf (drawerAnswer t w m values packed)) 0) [
+        | yes zero ↦
+            let both = number-done (drawerAnswer t w m values packed) (omega arith) in
+            let fit = drawer-taken t w m values packed both in
+            done both (equal-parts m k 1024 some (sym ev ∙ fit .whole)) (equal-parts m n (lanes t * w) some (sym ep ∙ fit .full))
+        | no other ↦ refused (λ z. other (omega (arith, z))) (λ z. other (omega (arith, z, ap numberOf each-answer)))
+      ]
+
+  -- Part b of what it leaves is what that call leaves: by unpack,
+  pub each-unpack : cut k (unpackBlocksLeaves t w m values packed) b ≡ unpackLeaves t w (cut k values b) (cut n packed b)
+  unfolding unpackLeaves
+  each-unpack =
+      by-answer
+      (λ done ek en.
+      ap (λ k. cut k (unpackBlocksLeaves t w m values packed) b) ek
+      ∙ unpack-block t w m values packed done b h
+      ∙ sym (ap₂ (λ k n. unpackLeaves t w (cut k values b) (cut n packed b)) ek en))
+      (λ all one. ap (λ l. cut k l b) (unpack-refused t w m values packed all)
+      ∙ sym (left-refused (answerFor (packTakes t w (cut k values b) (cut n packed b))) (unpackOf t w (cut n packed b)) (cut k values b) one))
+
+  -- and by for_pack.
+  pub each-for-pack : (reference : ℕ)
+      → cut n (forPackBlocksLeaves t w m values packed reference) b ≡ forPackLeaves t w (cut k values b) (cut n packed b) reference
+  unfolding forPackLeaves
+  each-for-pack reference =
+      by-answer
+      (λ done ek en.
+      ap (λ n. cut n (forPackBlocksLeaves t w m values packed reference) b) en
+      ∙ for-pack-block t w m values packed done b h reference
+      ∙ sym (ap₂ (λ k n. forPackLeaves t w (cut k values b) (cut n packed b) reference) ek en))
+      (λ all one. ap (λ l. cut n l b) (for-pack-refused t w m values packed all reference)
+      ∙ sym (left-refused (answerFor (packTakes t w (cut k values b) (cut n packed b))) (forPackOf t w (cut k values b) reference) (cut n packed b) one))
 
 -- ---- one block
 
@@ -178,15 +238,3 @@ module _ (t w i j : ℕ) (values packed : List ℕ) (done : drawerAnswer t w (i 
       left a (forPackBlocksOf t w i (take (i * 1024) values) reference) (take (i * (lanes t * w)) packed)
       ++ left b (forPackBlocksOf t w j (drop (i * 1024) values) reference) (drop (i * (lanes t * w)) packed))
       first-done second-done)
-
--- ---- refused
-
--- A refused call leaves its buffer as it was.
-module _ (t w m : ℕ) (values packed : List ℕ) (h : numberOf (drawerAnswer t w m values packed) ≡ 0 → ⊥) where
-  pub unpack-refused : unpackBlocksLeaves t w m values packed ≡ values
-  unfolding unpackBlocksLeaves
-  unpack-refused = left-refused (drawerAnswer t w m values packed) _ values h
-
-  pub for-pack-refused : (reference : ℕ) → forPackBlocksLeaves t w m values packed reference ≡ packed
-  unfolding forPackBlocksLeaves
-  for-pack-refused reference = left-refused (drawerAnswer t w m values packed) _ packed h

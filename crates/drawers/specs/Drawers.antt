@@ -23,7 +23,7 @@ pub data Drawn : Type 0 where
   -- and m packed blocks, at that size and width.
   packed-blocks : (t w m : ℕ) (words : List ℕ) → Drawn
 
--- This is the test that is made of each of them: there are at most 256 blocks.
+-- This is the test that is made of each of them. The test of the blocks says too that there are at most 256.
 abbrev pub passes : Drawn → Bool
 passes (a-width t w) = leb w t
 passes (blocks m values) = both (leb m 256) (long (m * 1024) values)
