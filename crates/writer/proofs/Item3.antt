@@ -1,5 +1,6 @@
 -- Document 02, Items 3 and 9, of the call: each number exactly when the document gives it, a refused call leaves the output as it was, and a call that
--- is done leaves the file at the front and the bytes behind it. The file is one that the reader accepts, and its rows are the numbers.
+-- is done leaves the file at the front and the bytes behind it. The file is one that the reader accepts, and its rows are the numbers: so say the calls that
+-- read one block out and one row.
 -- Assumes nothing.
 use mathlib.Core.List.{List, [], _∷_, _++_}
 use mathlib.Core.Logic.{_↔_}
@@ -20,10 +21,10 @@ use Rattle.places.proofs.Parts.{length-cut, cut-elements}
 use Rattle.little.specs.Little.{bytesOf, allBytes}
 use Rattle.contents.specs.declared.Entry.{Entry}
 use Rattle.contents.specs.declared.FileAnswer.{FileAnswer}
-use Rattle.contents.specs.declared.FileAnswer.the-variants.{Done, Block, Room}
+use Rattle.contents.specs.declared.FileAnswer.the-variants.{Done, Block, Beyond, Room}
 use Rattle.contents.specs.Answers.{fileAnswer, numberOf, isDone, left}
 use Rattle.contents.specs.Bytes.{headBytes, firstBytes, rangeBytes, entryBytes}
-use Rattle.contents.specs.Contents.{entryOf, rangeOf}
+use Rattle.contents.specs.Contents.{count, entryOf, rangeOf}
 use Rattle.contents.specs.First.{firstBad, firstFrom}
 use Rattle.contents.proofs.Answers.{left-refused, says-answer}
 use Rattle.bodies.specs.Bodies.{blockOf, wordsFrom}
@@ -39,13 +40,21 @@ use Rattle.bodies.proofs.Ranges.{highest-stands}
 use Rattle.candidates.specs.Restored.{candidate}
 use Rattle.candidates.proofs.Choice.{chosen-shortest}
 use Rattle.candidates.proofs.Least.{no-narrower}
-use Rattle.files.specs.Files.{rowsOf, fileTests}
+use Rattle.files.specs.Files.{blockIn, rowAt, rowsOf, fileTests, blockTests, blockLeaves}
+use Rattle.files.specs.Plain.{Reason, block-there, no-block, row-there, no-row}
+use Rattle.files.specs.Rows.{rowOf, valueOf, answerOf as rowAnswer}
+use Rattle.files.proofs.Reasons.{file-exactly, block-exactly, row-exactly}
+use Rattle.files.proofs.Rows.{row-place, row-answers, row-values}
 use Rattle.writer.specs.declared.Written.the-variants.{Length, Refused}
 use Rattle.writer.specs.Plain.{Blocks, WriteReason, no-blocks, short-output, room-there}
 use Rattle.writer.specs.Writer.{blockCount, blockAt, entriesFor, bodiesFor, fileOf, writeTests, writtenOf, fileLeaves, answerOf, lengthOf}
 use Rattle.writer.proofs.Calls.{not-whole, over-many, blocks-short, blocks-room}
 use Rattle.writer.proofs.Laying.{file-short}
-use Rattle.writer.proofs.ReadBack.{entry-read, range-read, file-accepted, rows-read}
+use Rattle.writer.proofs.ReadBack.{count-is, entry-read, range-read, block-read, file-accepted, rows-read}
+
+-- What a call of write lays down: so many bytes of its output as it says.
+abbrev pub laidDown : (values output : List ℕ) → List ℕ
+laidDown values output = take (lengthOf (writtenOf values output)) (fileLeaves values output)
 
 -- Whole blocks by their remainder and their count.
 module _ (values : List ℕ) where
@@ -125,16 +134,77 @@ module _ (values output : List ℕ) where
     pub write-behind : drop (length (fileOf values)) (fileLeaves values output) ≡ drop (length (fileOf values)) output
     write-behind = ap (drop (length (fileOf values))) over-file ∙ over-rest (fileOf values) output
 
+    write-blocks : Blocks values
+    write-blocks = right (write-exactly Done .0 done)
+      where
+        right : WriteReason values output Done → Blocks values
+        right (room-there b room) = b
+
     -- The reader accepts it, and its rows are the numbers.
     pub write-reads : Elements t64 values
         → (fileAnswer (fileTests (take (length (fileOf values)) (fileLeaves values output))) ≡ Done)
         × (rowsOf (take (length (fileOf values)) (fileLeaves values output)) ≡ values)
     write-reads fits =
-        let b = right (write-exactly Done .0 done) in
+        let b = write-blocks in
         (ap (λ l. fileAnswer (fileTests l)) write-front ∙ file-accepted values (b .n) (b .whole) (b .few) fits, ap rowsOf write-front ∙ rows-read values (b .n) (b .whole) (b .few) fits)
-      where
-        right : WriteReason values output Done → Blocks values
-        right (room-there b room) = b
+
+    -- What the reading calls give on the file, and leave.
+    module _ (fits : Elements t64 values) where
+      laid : List ℕ
+      laid = laidDown values output
+
+      laid-is : laid ≡ fileOf values
+      unfolding laid
+      laid-is = ap (λ n. take n (fileLeaves values output)) write-length ∙ write-front
+
+      laid-count : count laid ≡ blockCount values
+      laid-count =
+          let b = write-blocks in
+          ap count laid-is ∙ count-is values (b .n) (b .whole) (b .few) fits ∙ omega (arith, b .whole)
+
+      laid-right : Reason laid Done
+      laid-right = file-exactly laid Done .0 (ap (λ l. fileAnswer (fileTests l)) (laid-is ∙ sym write-front) ∙ write-reads fits .0)
+
+      -- One block out is done, and leaves the numbers of the block,
+      pub write-block-out : (i : ℕ) → i < blockCount values → (room : List ℕ) → length room ≡ 1024
+          → (fileAnswer (blockTests (laidDown values output) i room) ≡ Done) × (blockLeaves (laidDown values output) i room ≡ blockAt values i)
+      unfolding laid blockLeaves
+      write-block-out i h room long =
+          let b = write-blocks in
+          let done = block-exactly laid i room Done .1 (block-there long laid-right (omega (arith, laid-count))) in (
+            done,
+            ap (λ a. left a (blockIn laid i) room) done
+                ∙ ap (λ l. blockIn l i) laid-is
+                ∙ block-read values (b .n) (b .whole) (b .few) fits i (omega (arith, b .whole)),
+          )
+
+      -- or, past the last block, is refused with 12 and leaves its output.
+      pub write-no-block : (i : ℕ) → blockCount values ≤ i → (room : List ℕ) → length room ≡ 1024
+          → (fileAnswer (blockTests (laidDown values output) i room) ≡ Beyond) × (blockLeaves (laidDown values output) i room ≡ room)
+      unfolding laid blockLeaves
+      write-no-block i h room long =
+          let beyond = block-exactly laid i room Beyond .1 (no-block long laid-right (omega (arith, laid-count))) in
+          (beyond, ap (λ a. left a (blockIn laid i) room) beyond)
+
+      -- The lookup of a row is done, and gives the number that stands there,
+      pub write-row-at : (p : ℕ) → p < length values
+          → (rowAnswer (rowOf (laidDown values output) p) ≡ Done) × (valueOf (rowOf (laidDown values output) p) ≡ getD values p 0)
+      unfolding laid rowAt
+      write-row-at p h =
+          let there : p < 1024 * count laid = omega (arith, laid-count, write-blocks .whole) in
+          let done = row-exactly laid p Done .1 (row-there laid-right there) in (
+            row-answers laid p ∙ done,
+            row-values laid p
+                ∙ ap (λ a. left a (rowAt laid p) 0) done
+                ∙ sym (row-place laid p there)
+                ∙ ap (λ l. getD (rowsOf l) p 0) (laid-is ∙ sym write-front)
+                ∙ ap (λ l. getD l p 0) (write-reads fits .1),
+          )
+
+      -- or, past the last row, is refused with 12.
+      pub write-no-row : (p : ℕ) → length values ≤ p → rowAnswer (rowOf (laidDown values output) p) ≡ Beyond
+      unfolding laid
+      write-no-row p h = row-answers laid p ∙ row-exactly laid p Beyond .1 (no-row laid-right (omega (arith, laid-count, write-blocks .whole)))
 
 -- The numbers alone decide the bytes: two calls on the same numbers that are done leave the same file.
 pub write-same : (values output output′ : List ℕ) → fileAnswer (writeTests values output) ≡ Done → fileAnswer (writeTests values output′) ≡ Done
