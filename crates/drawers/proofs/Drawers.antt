@@ -1,8 +1,8 @@
 -- The theorems of document 02's Item 7, said of what the calls answer and leave: each block of a drawer is the single call's result on that block; a
 -- drawer of equal parts is answered as each single call is; a drawer of one block is the single call; and a drawer in two is two drawers.
 -- Assumes nothing.
-use mathlib.Core.List.{List, [], _∷_, _++_}
-use mathlib.Core.Path.{_≡_, refl, sym, ap, ap₂, subst, _∙_}
+use mathlib.Core.List.{List, _++_}
+use mathlib.Core.Path.{_≡_, sym, ap, ap₂, _∙_}
 use Prim.Native.Nat.{ℕ, _+_, _*_, _/_, _≤_, _<_}
 use native.Mathlib.Decide.{decLe, ℕ-discrete}
 use native.Mathlib.Nat.{add-mul, mul-comm, one-mul}

@@ -6,7 +6,7 @@ use mathlib.Core.Path.{_≡_, refl, sym, ap, subst}
 use Prim.Native.Nat.{ℕ, _≤_, _<_}
 use native.Mathlib.Decide.{decLe}
 use native.Mathlib.Omega.{arith}
-use lib.ListN.{length, take, length-replicate}
+use lib.ListN.{length, length-replicate}
 use lib.Seq.{length-take-le}
 use borrow.Author.Tests.{leb-true, le-leb, lt-leb}
 use Rattle.places.specs.Pick.{pick}
