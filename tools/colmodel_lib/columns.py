@@ -95,7 +95,7 @@ def row(data, p):
     answer, value, words = files.row_lookup(data, p)
     if answer.number:
         return refused(answer)
-    return f"{value}, from the whole body\n" if words is None else f"{value}, words {words}\n", 0, None
+    return f"{value}, no count\n" if words is None else f"{value}, in {words} words\n", 0, None
 
 
 def find(data, low, high, name=""):

@@ -84,14 +84,14 @@ fn put_row(value: u64, words: u64, line: &mut [u8]) -> u8 {
     finished(write_out(line, at))
 }
 
-// Kinds 2 and 3 have no count of words: there the whole body is read.
+// A row of kind 2 or 3 has no count.
 fn put_words(words: u64, line: &mut [u8], at: usize) -> usize {
     if words == NO_COUNT {
-        return put_text(b", from the whole body\n", line, at);
+        return put_text(b", no count\n", line, at);
     }
-    let at = put_text(b", words ", line, at);
+    let at = put_text(b", in ", line, at);
     let at = put_number(words, line, at);
-    put_text(b"\n", line, at)
+    put_text(b" words\n", line, at)
 }
 
 // ---- find: the rows between two bounds, with their values
