@@ -10,7 +10,6 @@ use crate::say::put_name;
 use crate::say::refuse;
 use crate::say::unread;
 use crate::walk::LINE;
-use access::NO_COUNT;
 use console::lines::put_number;
 use console::lines::put_text;
 use console::lines::write_if_full;
@@ -68,30 +67,35 @@ fn with_file(
 fn row(task: Task, name: &[u8], file: &[u8]) -> u8 {
     let found = files::row_at(file, task.first as usize);
     match found {
-        Row::Value(value, words) => say_row(value, words),
+        Row::Counted(value, words) => say_counted(value, words),
+        Row::Uncounted(value) => say_uncounted(value),
         Row::Refused(answer) => refuse(answer, name),
     }
 }
 
-fn say_row(value: u64, words: u64) -> u8 {
+fn say_counted(value: u64, words: u64) -> u8 {
     let mut line = [0u8; 80];
-    put_row(value, words, &mut line)
+    put_counted(value, words, &mut line)
 }
 
-fn put_row(value: u64, words: u64, line: &mut [u8]) -> u8 {
+fn put_counted(value: u64, words: u64, line: &mut [u8]) -> u8 {
     let at = put_number(value, line, 0);
-    let at = put_words(words, line, at);
+    let at = put_text(b", in ", line, at);
+    let at = put_number(words, line, at);
+    let at = put_text(b" words\n", line, at);
     finished(write_out(line, at))
 }
 
-// A row of kind 2 or 3 has no count.
-fn put_words(words: u64, line: &mut [u8], at: usize) -> usize {
-    if words == NO_COUNT {
-        return put_text(b", no count\n", line, at);
-    }
-    let at = put_text(b", in ", line, at);
-    let at = put_number(words, line, at);
-    put_text(b" words\n", line, at)
+// Kinds 2 and 3 have no count of words: there a value is made of more than its own bits.
+fn say_uncounted(value: u64) -> u8 {
+    let mut line = [0u8; 80];
+    put_uncounted(value, &mut line)
+}
+
+fn put_uncounted(value: u64, line: &mut [u8]) -> u8 {
+    let at = put_number(value, line, 0);
+    let at = put_text(b", no count\n", line, at);
+    finished(write_out(line, at))
 }
 
 // ---- find: the rows between two bounds, with their values

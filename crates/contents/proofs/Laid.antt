@@ -30,6 +30,12 @@ module _ (e : Entry) (good : isLaidOut e ≡ true) where
       let p = packed 0 (h .1) in
       (p .0, omega (arith, p .1))
 
+  -- a packed block has no reference
+  pub laid-unreferred : e .kind ≡ 0 → e .reference ≡ 0
+  unfolding isOfKind
+  laid-unreferred k =
+      eqb-true (e .reference) 0 (both-true (eqb (e .reference) 0) (isPacked 0 e) (simp (eq-eqb (e .kind) 0 k) at of-kind) .0)
+
   pub laid-frame : e .kind ≡ 1 → (e .width ≤ 64) × (e .length ≡ 128 * e .width)
   unfolding isOfKind
   laid-frame k =

@@ -2,11 +2,13 @@
 -- Assumes nothing.
 use mathlib.Core.Path.{_≡_}
 use Prim.Native.Nat.{ℕ}
+use Rattle.access.specs.Counts.{noCount}
 use Rattle.contents.specs.declared.Entry.{Entry}
 use Rattle.contents.specs.declared.FileAnswer.{FileAnswer}
 use Rattle.contents.specs.declared.Range.{Range}
 use Rattle.contents.specs.Answers.{numberOf, placeOf}
 use Rattle.files.specs.declared.Row.{Row}
+use Rattle.files.specs.declared.Row.the-variants.{Counted, Uncounted, Refused}
 use Rattle.files.specs.Rows as row
 use Rattle.writer.specs.declared.Written.{Written}
 use Rattle.writer.specs.Writer as writer
@@ -18,11 +20,18 @@ pub record FileHanded (answer : FileAnswer) (number place : ℕ) : Type 0 where
   pub its-number : number ≡ numberOf answer
   pub its-place : place ≡ placeOf answer
 
+-- A program in C or in Rust is handed one number for the count of words, so the largest number of 64 bits stands for a count where there is none: for
+-- a value of a block of kind 2 or 3, and after a refusal.
+abbrev pub rowWords : Row → ℕ
+rowWords (Counted v n) = n
+rowWords (Uncounted v) = noCount
+rowWords (Refused a) = noCount
+
 -- Of the lookup of a row the value and its count of words are handed over too.
 pub record RowHanded (found : Row) (number value words place : ℕ) : Type 0 where
   pub its-answer : FileHanded (row.answerOf found) number place
   pub its-value : value ≡ row.valueOf found
-  pub its-words : words ≡ row.wordsOf found
+  pub its-words : words ≡ rowWords found
 
 -- Of the writing of a file it is its length.
 pub record WrittenHanded (written : Written) (number length place : ℕ) : Type 0 where

@@ -1,5 +1,6 @@
 // The calls on column files of u64 numbers, for programs in C and in Rust. The first ones take a whole file. A program that holds only the
 // front of a file, its contents, and one body at a time asks the ones that come after them.
+use access::NO_COUNT;
 use access::Words;
 use compare::blocks_in_both;
 use compare::check_block;
@@ -38,7 +39,7 @@ ghost use Rattle.rewrite.specs.Rewrite.{rewrittenOf, rewriteLeaves};
 ghost use Rattle.canonical.specs.Canonical.{canonicalTests};
 ghost use Rattle.compare.specs.Changes.{listedOf};
 ghost use Rattle.compare.specs.Steps.{frontSize, inBlock, rangeAnswer, sameRange};
-ghost use Rattle.exports.specs.FileHanded.{FileHanded, RowHanded, WrittenHanded, FoundHanded, EntryHanded, RangeHanded};
+ghost use Rattle.exports.specs.FileHanded.{FileHanded, rowWords, RowHanded, WrittenHanded, FoundHanded, EntryHanded, RangeHanded};
 
 // Checks a column file, whole.
 #[no_mangle]
@@ -283,8 +284,19 @@ fn hand_row(row: Row, value: &mut u64, words: &mut Words, place: &mut usize) -> 
     ensures { λ r. ⌜ RowHanded row r (now (value .exit)) (now (words .exit)) (now (place .exit)) ⌝ }
 {
     *value = row.value();
-    *words = row.words();
+    *words = row_words(row);
     hand(row.answer(), place)
+}
+
+// The count of words of a row as one number, which is `NO_COUNT` where there is no count.
+fn row_words(row: Row) -> Words
+    ensures { λ r. ⌜ r ≡ rowWords row ⌝ }
+{
+    match row {
+        Row::Counted(_, n) => n,
+        Row::Uncounted(_) => NO_COUNT,
+        Row::Refused(_) => NO_COUNT,
+    }
 }
 
 // Hands over what the writing of a file gives.

@@ -3,10 +3,10 @@
 use mathlib.Core.Bool.{Bool, true, false}
 use mathlib.Core.List.{List, [], _∷_, _++_}
 use mathlib.Core.Path.{_≡_, refl, sym, ap, _∙_}
-use Prim.Native.Nat.{ℕ, _/_, _≤_, _<_}
+use Prim.Native.Nat.{ℕ, _/_, _%_, _≤_, _<_}
 use native.Mathlib.Decide.{decLe, decLt}
 use native.Mathlib.Omega.{arith}
-use lib.ListN.{length}
+use lib.ListN.{length, getD, replicate}
 use borrow.Author.Tests.{lt-ltb, le-ltb, eq-eqb, ne-eqb}
 use Rattle.places.specs.Answers.{unless}
 use Rattle.places.specs.Pick.{pick}
@@ -16,9 +16,9 @@ use Rattle.contents.specs.Answers.{FileTest, a-block, a-number, passes, refusal
 use Rattle.contents.specs.Contents.{count, entryOf, entryOr, isLaidOut, contentsTests}
 use Rattle.contents.proofs.Accepted.{whole-laid}
 use Rattle.contents.proofs.Answers.{passed, stopped, none-left, refusal-not-done, in-front-done, in-front-refused, number-done}
-use Rattle.files.specs.declared.Row.the-variants.{Value, Refused}
+use Rattle.files.specs.declared.Row.the-variants.{Uncounted, Refused}
 use Rattle.files.specs.Files.{rowCount, rowAt, blockIn, badRange, fileTests, blockTests, blockLeaves, rowTests}
-use Rattle.files.specs.Rows.{rowWords, rowOf}
+use Rattle.files.specs.Rows.{given, rowOf}
 use Rattle.files.proofs.Files.{goodIn, left-picked, whole, entry-read}
 use Rattle.files.proofs.Others.{badBut, asked-bad, none-bad}
 use Rattle.files.proofs.Ranges.{file-refused, file-ranges, ranges-done}
@@ -68,6 +68,17 @@ module _ (tests : List FileTest) (b n : ℕ) (output : List ℕ) where
       pub block-done : b < n → fileAnswer (a-block output ∷ (tests ++ (a-number b n ∷ []))) ≡ Done
       block-done h = number-left ∙ passed _ _ (lt-ltb b n h) ∙ none-left
 
+-- What a row of a block that is laid down gives, by whether it was laid down.
+module _ (a : FileAnswer) (b : ℕ) where
+  pub laid-refused : (t : Bool) (v : ℕ) → a ≡ pick t Done (Runs b) → (numberOf a ≡ 0 → ⊥) → Refused a ≡ pick t (Uncounted v) (Refused (Runs b))
+  laid-refused true v e refused = absurd (refused (ap numberOf e))
+  laid-refused false v e refused = ap Refused e
+
+  pub laid-found : (t : Bool) (q : ℕ) (block old left : List ℕ) → a ≡ pick t Done (Runs b) → left ≡ pick t block old → numberOf a ≡ 0
+      → Uncounted (getD left q 0) ≡ pick t (Uncounted (getD block q 0)) (Refused (Runs b))
+  laid-found true q block old left e is done = ap (λ x. Uncounted (getD x q 0)) is
+  laid-found false q block old left e is done = absurd (omega (arith, sym done ∙ ap numberOf e))
+
 module _ (l : List ℕ) where
   -- Where the contents are right, every other block is good and every range the true one, block b decides.
   module _ (b : ℕ) (right : fileAnswer (contentsTests l (length l)) ≡ Done) (others : badBut l b ≡ count l) (ranges : badRange l ≡ count l) where
@@ -94,9 +105,10 @@ module _ (l : List ℕ) where
 
   module _ (p : ℕ) where
     -- what a row gives, by its answer
-    row-is : (a : FileAnswer) → fileAnswer (rowTests l p) ≡ a → rowOf l p ≡ pick (isDone a) (Value (rowAt l p) (rowWords l p)) (Refused a)
+    row-is : (a : FileAnswer) → fileAnswer (rowTests l p) ≡ a
+        → rowOf l p ≡ pick (isDone a) (given (entryOf l (p / 1024)) (p % 1024) (rowAt l p)) (Refused a)
     unfolding rowOf
-    row-is a e = ap (λ a. pick (isDone a) (Value (rowAt l p) (rowWords l p)) (Refused a)) e
+    row-is a e = ap (λ a. pick (isDone a) (given (entryOf l (p / 1024)) (p % 1024) (rowAt l p)) (Refused a)) e
 
     same-number : fileAnswer (a-number p (rowCount l) ∷ []) ≡ fileAnswer (a-number (p / 1024) (count l) ∷ [])
     same-number =
@@ -110,6 +122,21 @@ module _ (l : List ℕ) where
     row-as-block output e =
         last-same (fileTests l) (a-number p (rowCount l)) (a-number (p / 1024) (count l)) same-number
         ∙ sym (passed _ _ (eq-eqb (length output) 1024 e))
+
+    -- Where the contents are right, every other block is good and every range the true one, the row's block decides.
+    pub row-decides : (right : fileAnswer (contentsTests l (length l)) ≡ Done) (others : badBut l (p / 1024) ≡ count l) (ranges : badRange l ≡ count l)
+        → p / 1024 < count l
+        → rowOf l p ≡ pick (goodIn l (p / 1024)) (given (entryOf l (p / 1024)) (p % 1024) (rowAt l p)) (Refused (Runs (p / 1024)))
+    row-decides right others ranges h =
+        let zeros = replicate {A = ℕ} 1024 0 in
+        row-is (pick (goodIn l (p / 1024)) Done (Runs (p / 1024))) (row-as-block zeros refl ∙ block-decides (p / 1024) right others ranges zeros refl h)
+        ∙ go (goodIn l (p / 1024))
+      where
+        go : (t : Bool)
+            → pick (isDone (pick t Done (Runs (p / 1024)))) (given (entryOf l (p / 1024)) (p % 1024) (rowAt l p)) (Refused (pick t Done (Runs (p / 1024))))
+            ≡ pick t (given (entryOf l (p / 1024)) (p % 1024) (rowAt l p)) (Refused (Runs (p / 1024)))
+        go true = refl
+        go false = refl
 
     pub row-refused : (a : FileAnswer) → fileAnswer (rowTests l p) ≡ a → (numberOf a ≡ 0 → ⊥) → rowOf l p ≡ Refused a
     row-refused a e n = row-is a e ∙ simp (ne-eqb (numberOf a) 0 n)
@@ -128,5 +155,5 @@ module _ (l : List ℕ) where
       pub row-laid : isLaidOut (entryOf l (p / 1024)) ≡ true
       row-laid = whole-laid (whole l right) (p / 1024) there
 
-    pub row-done : fileAnswer (rowTests l p) ≡ Done → rowOf l p ≡ Value (rowAt l p) (rowWords l p)
+    pub row-done : fileAnswer (rowTests l p) ≡ Done → rowOf l p ≡ given (entryOf l (p / 1024)) (p % 1024) (rowAt l p)
     row-done e = row-is Done e

@@ -1,6 +1,7 @@
 pub mod Calls
 pub mod Files
 pub mod Froms
+pub mod Lookups
 pub mod Others
 pub mod Ranges
 pub mod Reasons

@@ -5,10 +5,11 @@ use mathlib.Core.Bool.{Bool, true, false}
 use mathlib.Core.List.{List, [], _∷_}
 use mathlib.Core.Path.{_≡_, refl, sym, ap, ap₂, _∙_, subst}
 use Prim.Native.Nat.{ℕ, _+_, _*_, _/_, _%_, _^_, _≤_, _<_}
-use native.Mathlib.Decide.{decLe}
 use native.Mathlib.Omega.{arith}
+use lib.Dec.{ltb}
 use lib.ListN.{length, getD}
 use borrow.Author.Tests.{lt-ltb, le-ltb}
+use Rattle.places.specs.declared.Answer.the-variants.{Done as NoRefusal}
 use Rattle.places.specs.Pick.{pick}
 use Rattle.places.specs.Numbers.{plus, Elements}
 use Rattle.places.specs.Parts.{cut}
@@ -17,23 +18,30 @@ use Rattle.places.specs.Tab.{tab, tabFrom}
 use Rattle.places.proofs.Digits.{elements-of}
 use Rattle.places.proofs.Parts.{length-cut, getD-cut}
 use Rattle.places.proofs.Tabs.{getD-tab, length-tab, is-tab, tab-getD}
+use Rattle.packing.specs.Packed.{valueAt}
 use Rattle.packing.proofs.Rounds.{value-zero}
-use Rattle.access.specs.Counts.{countAt, noCount, wordsAt}
+use Rattle.access.specs.declared.t64.Single.{Single}
+use Rattle.access.specs.declared.t64.Single.the-variants as Single
+use Rattle.access.specs.t64 as single
+use Rattle.access.specs.Calls.{single, singleOf}
+use Rattle.access.specs.Counts.{countAt, wordsAt}
+use Rattle.access.proofs.Answers.{index-in, single-good}
 use Rattle.access.proofs.Counts.{a-place}
 use Rattle.deltas.specs.Deltas.{unforPackOf}
 use Rattle.little.specs.Little.{little}
-use Rattle.contents.specs.declared.FileAnswer.{FileAnswer}
+use Rattle.contents.specs.declared.Entry.{Entry}
 use Rattle.contents.specs.declared.FileAnswer.the-variants.{Done}
 use Rattle.contents.specs.Answers.{fileAnswer, isDone, left}
 use Rattle.contents.proofs.Answers.{says-answer}
-use Rattle.contents.proofs.Laid.{laid-packed, laid-frame}
 use Rattle.contents.specs.Contents.{count, entrySize, contentsSize, entryOf, rangeOf, isOfKind, isLaidOut, isRight, badEntry, bodiesSize, bodyStart}
 use Rattle.contents.specs.First.{firstFrom, firstBad}
-use Rattle.bodies.specs.Bodies.{blockOf, hasGoodRuns}
+use Rattle.bodies.specs.Bodies.{packedFrom, blockOf, hasGoodRuns}
+use Rattle.bodies.proofs.Blocks.{packed-value}
+use Rattle.bodies.proofs.Bodies.{length-numbers, laid-plain}
 use Rattle.files.specs.declared.Row.{Row}
-use Rattle.files.specs.declared.Row.the-variants.{Value, Refused}
-use Rattle.files.specs.Files.{badRuns, hasTrueRange, badRange, blockIn, rowCount, rowAt, rowsOf, fileTests, rowTests, blockLeaves}
-use Rattle.files.specs.Rows.{answerOf, valueOf, wordsOf, rowWords, rowOf}
+use Rattle.files.specs.declared.Row.the-variants.{Counted, Uncounted, Refused}
+use Rattle.files.specs.Files.{bodyOf, badRuns, hasTrueRange, badRange, blockIn, rowCount, rowAt, rowsOf, fileTests, rowTests, blockLeaves}
+use Rattle.files.specs.Rows.{answerOf, valueOf, given, rowOf}
 use Rattle.files.proofs.Calls.{row-as-block, row-laid, row-done, block-done}
 use Rattle.files.proofs.Ranges.{file-block}
 
@@ -68,59 +76,95 @@ module _ (l : List ℕ) where
 
   -- In an accepted file the lookup of a row gives that row, which is what one block out leaves at its place.
   pub row-block : fileAnswer (fileTests l) ≡ Done → (p : ℕ) → p < 1024 * count l → (output : List ℕ) → length output ≡ 1024
-      → (rowOf l p ≡ Value (getD (rowsOf l) p 0) (rowWords l p))
-      × (rowOf l p ≡ Value (getD (blockLeaves l (p / 1024) output) (p % 1024) 0) (rowWords l p))
+      → (rowOf l p ≡ given (entryOf l (p / 1024)) (p % 1024) (getD (rowsOf l) p 0))
+      × (rowOf l p ≡ given (entryOf l (p / 1024)) (p % 1024) (getD (blockLeaves l (p / 1024) output) (p % 1024) 0))
   unfolding blockLeaves rowAt
   row-block done p h output e =
       let out = block-done (fileTests l) (p / 1024) (count l) output e done (omega arith) in
-      let looked : rowOf l p ≡ Value (getD (blockIn l (p / 1024)) (p % 1024) 0) (rowWords l p) = row-done l p (row-as-block l p output e ∙ out) in (
-        looked ∙ ap (λ v. Value v (rowWords l p)) (sym (row-place p h)),
-        looked ∙ ap (λ a. Value (getD (left a (blockIn l (p / 1024)) output) (p % 1024) 0) (rowWords l p)) (sym out),
+      let given-as = given (entryOf l (p / 1024)) (p % 1024) in
+      let looked : rowOf l p ≡ given-as (getD (blockIn l (p / 1024)) (p % 1024) 0) = row-done l p (row-as-block l p output e ∙ out) in (
+        looked ∙ ap given-as (sym (row-place p h)),
+        looked ∙ ap (λ a. given-as (getD (left a (blockIn l (p / 1024)) output) (p % 1024) 0)) (sym out),
       )
 
--- What is read off the lookup of a row: the answer is that of its tests, the value is the row where it is done, and else 0, and so is the count,
--- but for the number that stands for none.
-module _ (l : List ℕ) (p : ℕ) where
-  pub row-answers : answerOf (rowOf l p) ≡ fileAnswer (rowTests l p)
-  unfolding rowOf
-  row-answers = says-answer answerOf (Value (rowAt l p) (rowWords l p)) Refused refl (λ _. refl) (fileAnswer (rowTests l p))
-
-  -- by whether the call is done
-  read-off : (read : Row → ℕ) (none : ℕ) → ((a : FileAnswer) → read (Refused a) ≡ none)
-      → read (rowOf l p) ≡ left (fileAnswer (rowTests l p)) (read (Value (rowAt l p) (rowWords l p))) none
-  unfolding rowOf
-  read-off read none same = go (isDone (fileAnswer (rowTests l p)))
+-- What is read off the lookup of a row: the answer is that of its tests, and the value is the row where it is done, and else 0.
+module _ (e : Entry) (place v : ℕ) where
+  given-done : answerOf (given e place v) ≡ Done
+  given-done = go (ltb (e .kind) 2)
     where
-      go : (b : Bool)
-          → read (pick b (Value (rowAt l p) (rowWords l p)) (Refused (fileAnswer (rowTests l p)))) ≡ pick b (read (Value (rowAt l p) (rowWords l p))) none
+      go : (b : Bool) → answerOf (pick b (Counted v (countAt t64 (e .width) place)) (Uncounted v)) ≡ Done
       go true = refl
-      go false = same (fileAnswer (rowTests l p))
+      go false = refl
+
+  given-value : valueOf (given e place v) ≡ v
+  given-value = go (ltb (e .kind) 2)
+    where
+      go : (b : Bool) → valueOf (pick b (Counted v (countAt t64 (e .width) place)) (Uncounted v)) ≡ v
+      go true = refl
+      go false = refl
+
+module _ (l : List ℕ) (p : ℕ) where
+  found : Row
+  found = given (entryOf l (p / 1024)) (p % 1024) (rowAt l p)
+
+  pub row-answers : answerOf (rowOf l p) ≡ fileAnswer (rowTests l p)
+  unfolding rowOf found
+  row-answers = says-answer answerOf found Refused (given-done (entryOf l (p / 1024)) (p % 1024) (rowAt l p)) (λ _. refl) (fileAnswer (rowTests l p))
 
   pub row-values : valueOf (rowOf l p) ≡ left (fileAnswer (rowTests l p)) (rowAt l p) 0
-  row-values = read-off valueOf 0 (λ _. refl)
+  unfolding rowOf found
+  row-values = go (isDone (fileAnswer (rowTests l p)))
+    where
+      go : (b : Bool) → valueOf (pick b found (Refused (fileAnswer (rowTests l p)))) ≡ pick b (rowAt l p) 0
+      go true = given-value (entryOf l (p / 1024)) (p % 1024) (rowAt l p)
+      go false = refl
 
-  pub row-counts : wordsOf (rowOf l p) ≡ left (fileAnswer (rowTests l p)) (rowWords l p) noCount
-  row-counts = read-off wordsOf noCount (λ _. refl)
-
--- Of a row that is there, the count is that of single access at its place and at its block's width for kinds 0 and 1, and there is none for kinds 2
--- and 3.
+-- A row that is there has a count where its block is of kind 0 or 1, and none where it is of kind 2 or 3.
 module _ (l : List ℕ) (p : ℕ) (done : fileAnswer (rowTests l p) ≡ Done) where
-  pub row-packed : entryOf l (p / 1024) .kind < 2 → rowWords l p ≡ countAt t64 (entryOf l (p / 1024) .width) (p % 1024)
-  unfolding rowWords
-  row-packed kind =
-      let e = entryOf l (p / 1024) in
-      let laid = row-laid l p done in
-      let narrow : e .width ≤ 64 =
-      elim (decLe (e .kind) 0) [
-        | yes zero ↦ laid-packed e laid (omega arith) .0
-        | no one ↦ laid-frame e laid (omega arith) .0
-      ] in
-      ap (λ b. pick b (wordsAt t64 (e .width) (p % 1024)) noCount) (lt-ltb (e .kind) 2 kind)
-      ∙ sym (a-place t64 (e .width) (p % 1024) narrow (omega arith))
+  -- its entry, the width of a packed block or of a frame, and the words of its body
+  e : Entry
+  e = entryOf l (p / 1024)
 
-  pub row-uncounted : 2 ≤ entryOf l (p / 1024) .kind → rowWords l p ≡ noCount
-  unfolding rowWords
-  row-uncounted kind = let e = entryOf l (p / 1024) in ap (λ b. pick b (wordsAt t64 (e .width) (p % 1024)) noCount) (le-ltb (e .kind) 2 kind)
+  pub words : List ℕ
+  words = packedFrom (bodyOf l (p / 1024)) 0 (entryOf l (p / 1024) .width)
+
+  counted : e .kind < 2 → rowOf l p ≡ Counted (rowAt l p) (countAt t64 (e .width) (p % 1024))
+  unfolding e
+  counted kind = row-done l p done ∙ rw (lt-ltb (entryOf l (p / 1024) .kind) 2 kind)
+
+  -- The count is what `words_at` says.
+  pub row-counted : entryOf l (p / 1024) .kind < 2 → rowOf l p ≡ Counted (rowAt l p) (wordsAt t64 (entryOf l (p / 1024) .width) (p % 1024))
+  unfolding e
+  row-counted kind =
+      counted kind
+      ∙ ap (Counted (rowAt l p)) (a-place t64 (e .width) (p % 1024) (laid-plain e (row-laid l p done) kind .0) (omega arith))
+
+  -- Value and count are those of single access at the row's place in the words of its body, and the reference is added to the value.
+  pub row-single : entryOf l (p / 1024) .kind < 2
+      → (found : Single) → found ≡ singleOf Single.Value Single.Refused t64 (entryOf l (p / 1024) .width) words (p % 1024)
+      → (single.answerOf found ≡ NoRefusal)
+      × (rowOf l p ≡ Counted (plus t64 (single.valueOf found) (entryOf l (p / 1024) .reference)) (single.wordsOf found))
+  unfolding e words rowAt blockIn
+  row-single kind found is =
+      let w = e .width in
+      let body = bodyOf l (p / 1024) in
+      let q = p % 1024 in
+      let small : q < 1024 = omega arith in
+      let laid = row-laid l p done in
+      let plain = laid-plain e laid kind in
+      let single-is : found ≡ Single.Value (valueAt t64 w words q) (countAt t64 w q)
+      = is
+      ∙ sym (single-good Single.Value Single.Refused t64 w words q (plain .0) (length-numbers 8 body (16 * w)))
+      ∙ ap (λ a. single Single.Value Single.Refused a (valueAt t64 w words q) (countAt t64 w q)) (index-in q small) in (
+        ap single.answerOf single-is,
+        counted kind
+            ∙ ap₂ Counted
+            (packed-value e body laid kind q small ∙ ap (λ f. plus t64 (single.valueOf f) (e .reference)) (sym single-is))
+            (ap single.wordsOf (sym single-is)),
+      )
+
+  pub row-uncounted : 2 ≤ entryOf l (p / 1024) .kind → rowOf l p ≡ Uncounted (rowAt l p)
+  row-uncounted kind = row-done l p done ∙ rw (le-ltb (entryOf l (p / 1024) .kind) 2 kind)
 
 -- ---- the worked files
 

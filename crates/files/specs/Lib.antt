@@ -1,5 +1,6 @@
 pub mod Files
 pub mod Froms
+pub mod InnerLookups
 pub mod InnerRuns
 pub mod Plain
 pub mod Rows

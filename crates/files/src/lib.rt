@@ -4,31 +4,36 @@
 // value of each block against what its entry says. Of an edition 1 file none of them reads a body twice; of an edition 2 file each
 // lays every block down once for its smallest and largest value, and one block out lays its block down once more. The four calls
 // whose names end in from are for a walk over the bodies, behind a check: they look at one body, and check nothing else.
-use access::NO_COUNT;
+mod lookup;
+
 use access::Words;
 use bodies::is_range;
-use contents::Entry;
 use contents::FileAnswer;
 use contents::contents_length;
 use contents::count;
 use contents::edition;
 use contents::entry_or;
 use contents::range_or;
+use lookup::look_up;
+use std::num::wrapping_add_u64;
 ghost use mathlib.Core.Path.{_≡_};
 ghost use mathlib.Core.List.{[], _∷_};
 ghost use Prim.Native.Nat.{_<_};
 ghost use lib.Dec.{eqb};
-ghost use lib.ListN.{length};
+ghost use lib.ListN.{length, getD};
 ghost use Rattle.places.specs.Pick.{pick, either};
+ghost use Rattle.places.specs.Sizes.{t64};
+ghost use Rattle.access.specs.Counts.{countAt};
 ghost use Rattle.contents.specs.declared.FileAnswer.the-variants.{Done, Runs};
 ghost use Rattle.contents.specs.Answers.{true-ranges, fileAnswer, numberOf};
 ghost use Rattle.contents.specs.Contents.{edition as editionIn, count as countIn, entryOf, bodyStart, contentsTests};
 ghost use Rattle.contents.specs.First.{firstBad};
 ghost use Rattle.bodies.specs.Bodies.{hasGoodRuns};
+ghost use Rattle.files.specs.declared.Row.the-variants.{Counted, Uncounted, Refused};
 ghost use Rattle.files.specs.Files.{bodyOf, blockIn, badRange, fileTests, blockTests, blockLeaves};
 ghost use Rattle.files.specs.Froms.{bodyFrom, goodFrom, fromTests, fromLeaves, trueFrom};
 ghost use Rattle.files.specs.InnerRuns.{runsTests};
-ghost use Rattle.files.specs.Rows.{answerOf, valueOf, wordsOf, wordsIn, rowOf};
+ghost use Rattle.files.specs.Rows.{answerOf, valueOf, rowOf};
 
 // Checks the whole file.
 pub fn check(file: &[u8]) -> FileAnswer
@@ -235,9 +240,11 @@ fn lay_down(file: &[u8], b: usize, output: &mut [u64]) -> FileAnswer
     FileAnswer::Done
 }
 
-// The value at a file row and how many packed words its bits stand in, which is `NO_COUNT` for kinds 2 and 3; or the refusal.
+// The value at a file row, with how many packed words its bits stand in where its block is of kind 0 or 1, and without where it is of kind 2
+// or 3; or the refusal.
 pub enum Row {
-    Value(u64, Words),
+    Counted(u64, Words),
+    Uncounted(u64),
     Refused(FileAnswer),
 }
 
@@ -247,7 +254,8 @@ impl Row {
         ensures { λ r. ⌜ r ≡ answerOf self ⌝ }
     {
         match self {
-            Row::Value(_, _) => FileAnswer::Done,
+            Row::Counted(_, _) => FileAnswer::Done,
+            Row::Uncounted(_) => FileAnswer::Done,
             Row::Refused(a) => a,
         }
     }
@@ -257,18 +265,9 @@ impl Row {
         ensures { λ r. ⌜ r ≡ valueOf self ⌝ }
     {
         match self {
-            Row::Value(v, _) => v,
+            Row::Counted(v, _) => v,
+            Row::Uncounted(v) => v,
             Row::Refused(_) => 0,
-        }
-    }
-
-    // The count of words; `NO_COUNT` for a value of kind 2 or 3, and after a refusal.
-    pub fn words(self) -> Words
-        ensures { λ r. ⌜ r ≡ wordsOf self ⌝ }
-    {
-        match self {
-            Row::Value(_, n) => n,
-            Row::Refused(_) => NO_COUNT,
         }
     }
 }
@@ -277,22 +276,47 @@ impl Row {
 pub fn row_at(file: &[u8], p: usize) -> Row
     ensures { λ r. ⌜ r ≡ rowOf (now (file .entry)) p ⌝ }
 {
-    let mut block = [0u64; 1024];
-    let answer = block_out(file, p / 1024, &mut block);
+    let b = p / 1024;
+    let answer = check_for(file, b);
     if answer.number() != 0 {
         return Row::Refused(answer);
     }
-    let v = block[p % 1024];
-    let n = words_of(entry_or(file, p / 1024), p % 1024);
-    Row::Value(v, n)
+    if count(file) <= b {
+        return Row::Refused(FileAnswer::Beyond);
+    }
+    let e = entry_or(file, b);
+    if e.kind < 2 {
+        return packed_row(file, b, p % 1024);
+    }
+    laid_row(file, b, p % 1024)
 }
 
-// How many packed words the value at a place of a block stands in. The values of kinds 2 and 3 have no count.
-fn words_of(e: Entry, place: usize) -> Words
-    ensures { λ r. ⌜ r ≡ wordsIn e place ⌝ }
+// The value at a place of block b, which is packed or a frame: what the lookup in its body gives, and the reference is added. A packed
+// block has the reference 0.
+fn packed_row(file: &[u8], b: usize, place: usize) -> Row
+    requires { ⌜ fileAnswer (contentsTests (now file) (length (now file))) ≡ Done ⌝ }
+    requires { ⌜ b < countIn (now file) ⌝ }
+    requires { ⌜ entryOf (now file) b .kind < 2 ⌝ }
+    requires { ⌜ place < 1024 ⌝ }
+    ensures { λ r. ⌜ r ≡ Counted (getD (blockIn (now (file .entry)) b) place 0) (countAt t64 (entryOf (now (file .entry)) b .width) place) ⌝ }
 {
-    if e.kind < 2 {
-        return access::t64::words_at(e.width as usize, place);
+    let e = entry_or(file, b);
+    let at = body_start(file, b);
+    let found = look_up(e.width as usize, body_from(file, b, at), place);
+    Row::Counted(wrapping_add_u64(found.value, e.reference), found.words)
+}
+
+// The value at a place of block b, which is of another kind: the block is laid down.
+fn laid_row(file: &[u8], b: usize, place: usize) -> Row
+    requires { ⌜ fileAnswer (contentsTests (now file) (length (now file))) ≡ Done ⌝ }
+    requires { ⌜ b < countIn (now file) ⌝ }
+    requires { ⌜ place < 1024 ⌝ }
+    ensures { λ r. ⌜ r ≡ pick (hasGoodRuns (entryOf (now (file .entry)) b) (bodyOf (now (file .entry)) b)) (Uncounted (getD (blockIn (now (file .entry)) b) place 0)) (Refused (Runs b)) ⌝ }
+{
+    let mut block = [0u64; 1024];
+    let answer = lay_down(file, b, &mut block);
+    if answer.number() != 0 {
+        return Row::Refused(answer);
     }
-    NO_COUNT
+    Row::Uncounted(block[place])
 }

@@ -1,6 +1,8 @@
 // The calls: what each takes, and how those on files are made. A call has a line in `takes`; one that reads a file has a line
 // in `call`, those that write a file are made by `write` and `rewrite`, the calls on drawers are made in the modules of the sizes, and those
 // on a body that trickles in in trickles.
+use access::NO_COUNT;
+use access::Words;
 use contents::FileAnswer;
 use files::Row;
 use search::Found;
@@ -138,9 +140,17 @@ fn reply(answer: FileAnswer, value: u64) -> Reply
     }
 }
 
-// Of a refused lookup the value is 0. The count of words is given back as the reference.
+// Of a refused lookup the value is 0. The count of words is given back as the reference, and there 2^64 - 1 says that there is none.
 fn of_row(row: Row) -> Reply {
-    reply(row.answer(), row.value()).with_reference(row.words())
+    reply(row.answer(), row.value()).with_reference(words_of(row))
+}
+
+fn words_of(row: Row) -> Words {
+    match row {
+        Row::Counted(_, n) => n,
+        Row::Uncounted(_) => NO_COUNT,
+        Row::Refused(_) => NO_COUNT,
+    }
 }
 
 // Of a refused search no row is listed.

@@ -191,7 +191,8 @@ fn sevens() -> [u64; 1024] {
 fn show_row(file: &[u8; 292], row: usize) {
     let found = files::row_at(file, row);
     match found {
-        Row::Value(x, _) => line(b"  ", x, b" in row ", row as u64),
+        Row::Counted(x, _) => line(b"  ", x, b" in row ", row as u64),
+        Row::Uncounted(x) => line(b"  ", x, b" in row ", row as u64),
         Row::Refused(answer) => show_file_answer(answer),
     }
 }

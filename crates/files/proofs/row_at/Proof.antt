@@ -1,73 +1,149 @@
--- `files::row_at` meets its contract: it is answered as one block out is, and its value is the one that this leaves at its place.
+-- `files::row_at` meets its contract: each refusal by its test, and the value by the kind of its block.
 -- Assumes nothing.
+use mathlib.Core.List.{List}
 use mathlib.Core.Path.{_≡_, refl, sym, ap, ap₂, _∙_}
-use Prim.Native.Nat.{_/_, _%_}
+use Prim.Native.Nat.{ℕ, _/_, _%_, _≤_, _<_}
+use native.Mathlib.Omega.{arith}
 use denote.Ref.{now}
-use lib.ListN.{getD, replicate}
+use lib.ListN.{length, replicate}
 use borrow.Author.Needs.{needs}
-use Rattle.contents.specs.declared.FileAnswer.the-variants.{Done}
-use Rattle.contents.specs.Answers.{fileAnswer, left}
-use Rattle.contents.proofs.Answers.{number-done}
-use Rattle.files.specs.declared.Row.the-variants.{Value}
-use Rattle.files.specs.Files.{blockIn, blockTests, blockLeaves, rowAt}
-use Rattle.files.specs.Rows.{wordsIn, rowWords}
-use Rattle.files.proofs.Calls.{row-as-block, row-refused, row-entry, row-done}
+use borrow.Author.Tests.{lt-ltb, le-ltb}
+use Rattle.places.specs.Pick.{pick}
+use Rattle.places.specs.Sizes.{t64}
+use Rattle.access.specs.Counts.{countAt}
+use Rattle.contents.specs.declared.FileAnswer.the-variants.{Done, Beyond, Runs}
+use Rattle.contents.specs.Answers.{numberOf, fileAnswer}
+use Rattle.contents.specs.Contents.{count, entryOf, contentsTests}
+use Rattle.bodies.proofs.Bodies.{other-runs}
+use Rattle.files.specs.declared.Row.the-variants.{Counted, Uncounted, Refused}
+use Rattle.files.specs.Files.{bodyOf, badRange, fileTests, rowAt}
+use Rattle.files.specs.Rows.{given, rowOf}
+use Rattle.files.proofs.Calls.{block-refused, block-beyond, file-done, row-as-block, row-refused, row-decides}
+use Rattle.files.proofs.Files.{goodIn, count-read, entry-read}
+use Rattle.files.proofs.Others.{badBut}
 use Rattle.files.proofs.row_at.Statement.{statement}
 use Rattle.files.proofs.row_at.Tie as tie
 
-slice-aggregate-block-out : tie.Need-slice-aggregate-block-out
-slice-aggregate-block-out c = search needs
+-- an output, by which the lookup of a row is answered as one block out is
+abbrev zeros : List ℕ
+zeros = replicate 1024 0
 
-block-out-requires : tie.Need-block-out-requires
-block-out-requires c κs = search needs
+-- the contents are right where the number is 0, every other block is good, and every range the true one
+rest : (c : tie.Else1) → (fileAnswer (contentsTests (now (c .before .before .before .before .args .file)) (length (now (c .before .before .before .before .args .file)))) ≡ Done) × ((badBut (now (c .before .before .before .before .args .file)) (c .before .before .before .before .args .p / 1024) ≡ count (now (c .before .before .before .before .args .file))) × (badRange (now (c .before .before .before .before .args .file)) ≡ count (now (c .before .before .before .before .args .file))))
+rest c =
+    let number = sym (c .before .number .ensures) ∙ c .if1 .left in
+    let asked = c .before .before .check-for .ensures in
+    (asked .1 .0 number, (asked .1 .1 .0 number, asked .1 .1 .1 number))
+
+-- the count that was read
+count-is : (c : tie.After-count) → c .count .result ≡ count (now (c .before .before .before .before .before .args .file))
+count-is c =
+    let l = now (c .before .before .before .before .before .args .file) in
+    c .count .ensures ∙ count-read l (rest (c .before) .0)
+
+-- the block is there
+there : (c : tie.Else2) → c .before .before .before .before .before .before .args .p / 1024 < count (now (c .before .before .before .before .before .before .args .file))
+there c = omega (arith, count-is (c .before), c .if2 .left)
+
+-- the entry that was read
+entry-is : (c : tie.After-entry-or) → c .entry-or .result ≡ entryOf (now (c .before .before .before .before .before .before .before .args .file)) (c .before .before .before .before .before .before .before .args .p / 1024)
+entry-is c =
+    let start = c .before .before .before .before .before .before .before in
+    let l = now (start .args .file) in
+    c .entry-or .ensures ∙ entry-read l (rest (c .before .before .before) .0) (start .args .p / 1024) (there (c .before))
+
+-- what the row gives, by its block
+decides : (c : tie.Else2) → rowOf (now (c .before .before .before .before .before .before .args .file)) (c .before .before .before .before .before .before .args .p) ≡ pick (goodIn (now (c .before .before .before .before .before .before .args .file)) (c .before .before .before .before .before .before .args .p / 1024)) (given (entryOf (now (c .before .before .before .before .before .before .args .file)) (c .before .before .before .before .before .before .args .p / 1024)) (c .before .before .before .before .before .before .args .p % 1024) (rowAt (now (c .before .before .before .before .before .before .args .file)) (c .before .before .before .before .before .before .args .p))) (Refused (Runs (c .before .before .before .before .before .before .args .p / 1024)))
+decides c =
+    let start = c .before .before .before .before .before .before in
+    let others = rest (c .before .before) in
+    row-decides (now (start .args .file)) (start .args .p) (others .0) (others .1 .0) (others .1 .1) (there c)
+
+check-for-requires : tie.Need-check-for-requires
+check-for-requires c κs = search needs
 
 number-requires : tie.Need-number-requires
 number-requires c κs = search needs
 
 returns : tie.Need-returns
 returns c =
-    let out = c .before .before .before in
-    let start = out .before .before .before in
+    let asked = c .before .before in
+    let start = asked .before .before in
     let l = now (start .args .file) in
     let p = start .args .p in
-    sym (row-refused l p (out .block-out .result) (row-as-block l p (replicate 1024 0) refl ∙ sym (out .block-out .ensures .0)) (λ e. c .if1 .taken (c .before .number .ensures ∙ e)))
+    let refused : numberOf (asked .check-for .result) ≡ 0 → ⊥ = λ e. c .if1 .taken (c .before .number .ensures ∙ e) in
+    let file = asked .check-for .ensures .0 refused in
+    let bad = row-as-block l p zeros refl ∙ block-refused (fileTests l) (p / 1024) (count l) zeros refl (λ e. refused (ap numberOf file ∙ e)) in
+    sym (row-refused l p _ (bad ∙ sym file) refused)
 
-mul-v : tie.Need-mul-v
-mul-v c = search needs
+count-requires : tie.Need-count-requires
+count-requires c κs = search needs
 
-array-read-v : tie.Need-array-read-v
-array-read-v c = search needs
+returns-2 : tie.Need-returns-2
+returns-2 c =
+    let at = c .before in
+    let start = at .before .before .before .before .before in
+    let l = now (start .args .file) in
+    let p = start .args .p in
+    let others = rest (at .before) in
+    let high : count l ≤ p / 1024 = omega (arith, count-is at, c .if2 .taken) in
+    let done = file-done l (p / 1024) (others .0) (others .1 .0) (others .1 .1) (λ h. absurd (omega arith)) in
+    sym (row-refused l p Beyond (row-as-block l p zeros refl ∙ block-beyond (fileTests l) (p / 1024) (count l) zeros refl done high) (λ e. omega arith))
 
 entry-or-requires : tie.Need-entry-or-requires
 entry-or-requires c κs = search needs
 
-words-of-requires : tie.Need-words-of-requires
-words-of-requires c κs = search needs
+packed-row-requires : tie.Need-packed-row-requires
+packed-row-requires c κs =
+    let at = c .before .before .before in
+    (rest (at .before .before) .0, (there at, (omega (arith, ap (λ e. e .kind) (entry-is (c .before .before)), c .if3 .taken), omega arith)))
 
-returns-2 : tie.Need-returns-2
-unfolding rowWords rowAt blockLeaves
-returns-2 c =
-    let out = c .before .before .before .before .before in
-    let start = out .before .before .before in
+returns-3 : tie.Need-returns-3
+unfolding rowAt
+returns-3 c =
+    let at = c .before .before .before .before in
+    let start = at .before .before .before .before .before .before in
     let l = now (start .args .file) in
     let p = start .args .p in
-    let done : fileAnswer (blockTests l (p / 1024) (replicate 1024 0)) ≡ Done = sym (out .block-out .ensures .0) ∙ number-done _ (sym (c .before .before .before .number .ensures) ∙ c .before .before .if1 .left) in
-    let looked = row-as-block l p (replicate 1024 0) refl ∙ done in
-    ap₂ (λ block n. Value (getD block (p % 1024) 0) n)
-    (out .block-out .ensures .1 ∙ ap (λ a. left a (blockIn l (p / 1024)) (replicate 1024 0)) done)
-    (c .words-of .ensures ∙ ap (λ e. wordsIn e (p % 1024)) (c .before .entry-or .ensures ∙ row-entry l p looked))
-    ∙ sym (row-done l p looked)
+    let e = entryOf l (p / 1024) in
+    let kind : e .kind < 2 = omega (arith, ap (λ e. e .kind) (entry-is (c .before .before .before)), c .before .if3 .taken) in
+    c .packed-row .ensures
+    ∙ sym
+    (decides at
+    ∙ ap₂ (λ good few. pick good (pick few (Counted (rowAt l p) (countAt t64 (e .width) (p % 1024))) (Uncounted (rowAt l p))) (Refused (Runs (p / 1024))))
+    (other-runs e (bodyOf l (p / 1024)) (λ three. omega arith))
+    (lt-ltb (e .kind) 2 kind))
+
+laid-row-requires : tie.Need-laid-row-requires
+laid-row-requires c κs =
+    let at = c .before .before .before in
+    (rest (at .before .before) .0, (there at, omega arith))
+
+returns-4 : tie.Need-returns-4
+unfolding rowAt
+returns-4 c =
+    let at = c .before .before .before .before in
+    let start = at .before .before .before .before .before .before in
+    let l = now (start .args .file) in
+    let p = start .args .p in
+    let e = entryOf l (p / 1024) in
+    let kind : 2 ≤ e .kind = omega (arith, ap (λ e. e .kind) (entry-is (c .before .before .before)), c .before .if3 .left) in
+    c .laid-row .ensures
+    ∙ sym
+    (decides at
+    ∙ ap (λ few. pick (goodIn l (p / 1024)) (pick few (Counted (rowAt l p) (countAt t64 (e .width) (p % 1024))) (Uncounted (rowAt l p))) (Refused (Runs (p / 1024)))) (le-ltb (e .kind) 2 kind))
 
 pub row-at-spec : {M : Type 1} → statement M
 row-at-spec =
     tie.close
     (tie.spec
-    slice-aggregate-block-out
-    block-out-requires
+    check-for-requires
     number-requires
     returns
-    mul-v
-    array-read-v
+    count-requires
+    returns-2
     entry-or-requires
-    words-of-requires
-    returns-2)
+    packed-row-requires
+    returns-3
+    laid-row-requires
+    returns-4)

@@ -7,8 +7,8 @@ use Rattle.exports.proofs.columns.hand_row.Tie as tie
 value-requires : tie.Need-value-requires
 value-requires c κs = search needs
 
-words-requires : tie.Need-words-requires
-words-requires c κs = search needs
+row-words-requires : tie.Need-row-words-requires
+row-words-requires c κs = search needs
 
 answer-requires : tie.Need-answer-requires
 answer-requires c κs = search needs
@@ -21,4 +21,4 @@ returns c = record { its-answer = search needs; its-value = search needs; its-wo
 
 pub hand-row-spec : {M : Type 1} → statement M
 hand-row-spec =
-    tie.close (tie.spec value-requires words-requires answer-requires hand-requires returns)
+    tie.close (tie.spec value-requires row-words-requires answer-requires hand-requires returns)
