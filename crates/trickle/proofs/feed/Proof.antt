@@ -1,7 +1,7 @@
 -- `trickle::feed` meets its contract: by what the state counts as, field by field.
 -- Assumes nothing.
 use mathlib.Core.Path.{_≡_, ap, ap₂, _∙_}
-use Prim.Native.Nat.{_+_, _-_, _*_, min}
+use Prim.Native.Nat.{ℕ, _+_, _-_, _*_, _≤_, min}
 use native.Mathlib.Omega.{arith}
 use denote.Ref.{now}
 use lib.ListN.{length, take}
@@ -31,12 +31,15 @@ shorter-requires c κs = search needs
 slice-aggregate-copy-in : tie.Need-slice-aggregate-copy-in
 slice-aggregate-copy-in c = search needs
 
+-- what ends within 8,192 bytes ends within the room
+within : {end long : ℕ} → end ≤ 8192 → long ≡ 8192 → end ≤ long
+within h e = omega arith
+
 copy-in-requires : tie.Need-copy-in-requires
 copy-in-requires c κs =
     let call = c .before .before in
     let is = known (call .before) in
-    let long : length (call .before .counted .result .room) ≡ 8192 = search needs in
-    (omega (arith, call .shorter .ensures, is .0, is .1, long), omega (arith, call .shorter .ensures))
+    (within (omega (arith, call .shorter .ensures, is .0, is .1)) (search needs), omega (arith, call .shorter .ensures))
 
 add-t8 : tie.Need-add-t8
 add-t8 c =
