@@ -51,7 +51,7 @@ module _ (rule : ℕ → ℕ) (p : ℕ) where
 
 -- ---- the element sizes that have no tables
 
-pub Small : ℕ → Type 0
+abbrev pub Small : ℕ → Type 0
 Small t = (t ≡ t8) ⊎ (t ≡ t16)
 
 pub small-t8 : Small t8
