@@ -20,7 +20,7 @@ use Rattle.places.specs.Tab.{tab}
 use Rattle.places.proofs.Places.{each}
 use Rattle.places.proofs.Tabs.{length-tab, getD-tab}
 use Rattle.access.specs.InnerCounts.{firsts}
-use Rattle.access.specs.Counts.{BitIn, wordsRead, countAt, noCount, wordsAt, countsOf, sumOf, listWords}
+use Rattle.access.specs.Counts.{BitIn, wordsRead, countAt, noCount, wordsAt, countsOf, sumOf, sumCap, listWords}
 
 -- ---- one count
 
@@ -188,7 +188,7 @@ sum-small l (suc k) all h =
 -- A list reads the sum of its counts, and where that is no number of 64 bits the largest of them.
 pub list-held : (t w : ℕ) (indices : List ℕ)
     → let sum = sumOf (countsOf t w indices) in
-    (sum < 2 ^ 64 → listWords t w indices ≡ sum) × (2 ^ 64 ≤ sum → listWords t w indices ≡ 2 ^ 64 - 1)
+    (sum < 2 ^ 64 → listWords t w indices ≡ sum) × (2 ^ 64 ≤ sum → listWords t w indices ≡ sumCap)
 unfolding listWords
 list-held t w indices = (λ h. omega arith, λ h. omega arith)
 
@@ -267,6 +267,11 @@ module _ {t w : ℕ} {indices : List ℕ} {i seconds : ℕ} (so : Seconds t w in
     seconds-same other = subst (Seconds t w indices (i + 1)) (add-zero seconds) (next-second 0 (rw (ne-eqb n 2 other) refl))
 
 -- ---- the count at a place
+
+-- A lookup has a count, and so it is no refusal, which has none.
+pub has-count : (t w p : ℕ) → countAt t w p ≡ noCount → ⊥
+unfolding countAt
+has-count t w p e = omega (arith, words-small t w (row t p))
 
 module _ (t w p : ℕ) where
   pub no-width : t < w → noCount ≡ wordsAt t w p

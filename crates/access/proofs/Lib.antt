@@ -3,3 +3,4 @@ pub mod Answers
 pub mod Budgets
 pub mod Counts
 pub mod Lookups
+pub mod Tables

@@ -1,16 +1,18 @@
--- What a lookup gives for a place is its lane and its row, so that the value of that row in that lane is the value at the place. And what
--- the arithmetic of a place asks of an element size.
+-- What a lookup gives for a place is its lane and its row, so that the value of that row in that lane is the value at the place. And the
+-- arithmetic of the row at the two element sizes that have no tables.
 -- Assumes nothing.
-use mathlib.Core.Path.{_≡_, sym, ap, ap₂, subst, _∙_}
+use mathlib.Core.Logic.{_⊎_, ⊎-elim, inl, inr}
+use mathlib.Core.Path.{_≡_, refl, sym, ap, ap₂, subst, subst⁻¹, _∙_}
 use mathlib.Core.List.{List}
-use Prim.Native.Nat.{ℕ, _%_, _≤_, _<_}
+use Prim.Native.Nat.{ℕ, _+_, _*_, _/_, _%_, _≤_, _<_}
 use native.Mathlib.Omega.{arith}
 use lib.ListN.{getD, List·getD-eq-default}
 use Rattle.places.specs.Numbers.{digit}
-use Rattle.places.specs.Places.{lane, row}
-use Rattle.places.specs.Sizes.{Size, lanes}
+use Rattle.places.specs.Places.{order, lane, row}
+use Rattle.places.specs.Sizes.{t8, t16, Size, lanes}
 use Rattle.places.specs.Tab.{tab}
-use Rattle.places.proofs.Places.{each, size8, size16, size32, size64, lane-lt, row-lt}
+use Rattle.places.proofs.Every.{Same, same}
+use Rattle.places.proofs.Places.{lane-lt, row-lt}
 use Rattle.places.proofs.Tabs.{length-tab, getD-tab}
 use Rattle.packing.specs.Packed.{wordsNumber, valueAt}
 use Rattle.access.specs.Counts.{wordsRead, countAt}
@@ -47,17 +49,21 @@ module _ (rule : ℕ → ℕ) (p : ℕ) where
   pub past-end : 1024 ≤ p → 0 ≡ getD (tab 1024 rule) p 0
   past-end h = sym (List·getD-eq-default (tab 1024 rule) 0 (omega (arith, length-tab 1024 rule)))
 
--- that a number is an element size, for `search`
-pub ruleset sizes = (size8, size16, size32, size64)
+-- ---- the element sizes that have no tables
 
--- an element has a bit and a block has a lane
-pub some-bits : {t : ℕ} → Size t → 0 < t
-some-bits s = each (λ t. 0 < t) (omega arith) (omega arith) (omega arith) (omega arith) s
+abbrev pub Small : ℕ → Type 0
+Small t = (t ≡ t8) ⊎ (t ≡ t16)
 
-pub some-lanes : {t : ℕ} → Size t → 0 < lanes t
-some-lanes s = each (λ t. 0 < lanes t) (omega arith) (omega arith) (omega arith) (omega arith) s
+pub small-t8 : Small t8
+small-t8 = inl refl
 
--- the lanes of a block divide 128, so the lane is a part of what is left over of 128
-pub lane-within : {t : ℕ} → Size t → (p : ℕ) → lane t p ≤ p % 128
-unfolding lane
-lane-within s p = each (λ t. lane t p ≤ p % 128) (omega arith) (omega arith) (omega arith) (omega arith) s
+pub small-t16 : Small t16
+small-t16 = inr refl
+
+-- Of the order list no more than its entries 0 and 4 are asked there, which are 0 and 1, so it is left out.
+pub row-by-eights : {t : ℕ} → Small t → (p : ℕ) → p < 1024 → p / lanes t % (t / 8) * 8 + p / 128 ≡ row t p
+unfolding order lane row
+row-by-eights {t} s p h =
+    let test : ℕ → Type 0 = λ t. Same 1024 (λ p. p / lanes t % (t / 8) * 8 + p / 128) (row t) in
+    same 1024 (λ p. p / lanes t % (t / 8) * 8 + p / 128) (row t)
+    (⊎-elim (λ e. subst⁻¹ test e tt) (λ e. subst⁻¹ test e tt) s) p h

@@ -2,11 +2,12 @@
 -- Assumes nothing.
 use mathlib.Core.List.{List, [], _∷_}
 use mathlib.Core.Path.{_≡_}
-use Prim.Native.Nat.{ℕ, _+_, _-_, _*_, _/_, _%_, _^_, _<_, min}
+use Prim.Native.Nat.{ℕ, _+_, _*_, _/_, _%_, _<_, min}
 use lib.Dec.{eqb, leb, ltb}
 use lib.ListN.{length, getD}
 use Rattle.places.specs.Pick.{pick, both}
 use Rattle.places.specs.Places.{row}
+use Rattle.places.specs.Sizes.{largestU64}
 use Rattle.places.specs.Tab.{tab}
 
 -- At a width of at most t the bits of row r stand in this many packed words of its lane: in none at width 0, in one where they end within the
@@ -25,10 +26,10 @@ pub record BitIn (t w r k : ℕ) : Type 0 where
   pub within : bit < w
   pub stands : (r * w + bit) / t ≡ k
 
--- The largest number of 64 bits stands for a count where there is none. A count is 0, 1 or 2, so it is never this number; a list's sum may be
+-- The largest u64 stands for a count where there is none. A count is 0, 1 or 2, so it is never this number; a list's sum may be
 -- held at it, so 0 stands for the sum of a refused list.
 abbrev pub noCount : ℕ
-noCount = 2 ^ 64 - 1
+noCount = largestU64
 
 -- There is a count where the width is at most t and the place is below 1,024.
 unfoldable pub wordsAt : (t w p : ℕ) → ℕ
@@ -43,9 +44,13 @@ unfoldable pub sumOf : List ℕ → ℕ
 sumOf [] = 0
 sumOf (x ∷ xs) = x + sumOf xs
 
--- A sum that would pass the largest number of 64 bits is held there.
+-- No sum of a list is above the largest u64.
+abbrev pub sumCap : ℕ
+sumCap = largestU64
+
+-- A sum that would pass it is held there.
 abbrev pub held : ℕ → ℕ
-held n = min n (2 ^ 64 - 1)
+held n = min n sumCap
 
 -- A list of indices reads this many words.
 unfoldable pub listWords : (t w : ℕ) (indices : List ℕ) → ℕ

@@ -2,18 +2,15 @@
 // is given at the call.
 //
 // What is the same at all four element sizes stands here: what a list of lookups gives, with a budget and without, the search of a list for an index past the
-// block's end, an entry's refusal as the list's, and the rules for the lane and the row of a place. Each size has a module of its own.
+// block's end, and an entry's refusal as the list's. Each size has a module of its own.
 pub mod t16;
 pub mod t32;
 pub mod t64;
 pub mod t8;
 
 use places::Answer;
-use places::order;
 ghost use mathlib.Core.Path.{_≡_};
-ghost use Rattle.places.specs.Places.{lane, row};
 ghost use Rattle.places.specs.Search.{firstBeyond};
-ghost use Rattle.places.specs.Sizes.{Size};
 ghost use Rattle.access.specs.Budgets as Budgets;
 ghost use Rattle.access.specs.Calls.{answerOf, wordsOf};
 ghost use Rattle.access.specs.InnerCounts.{firsts};
@@ -127,23 +124,4 @@ fn first_words(width: usize, lookups: usize) -> Words
         return 0;
     }
     lookups as Words
-}
-
-// The lane of a place by arithmetic, at t bits an element.
-fn lane_by_rule(t: usize, place: usize) -> usize
-    requires { ⌜ Size t ⌝ }
-    ensures { λ r. ⌜ r ≡ lane t place ⌝ }
-{
-    place % (1024 / t)
-}
-
-// The row of a place by arithmetic, at t bits an element. The order list is a `match`, so there is no table here.
-fn row_by_rule(t: usize, place: usize) -> usize
-    requires { ⌜ Size t ⌝ }
-    ensures { λ r. ⌜ r ≡ row t place ⌝ }
-{
-    let l = lane_by_rule(t, place);
-    let eighth = (place % 128 - l) / 16;
-    let first = order(eighth);
-    first * 8 + place / 128
 }

@@ -307,10 +307,11 @@ fn read_split(width: u8, packed: &[u32], l: usize, r: usize) -> Single
     let bit = r * (width as usize);
     let word = bit / T;
     let s = (bit % T) as u8;
-    let mut v = down(packed[LANES * word + l], s);
+    let at = LANES * word + l;
+    let mut v = down(packed[at], s);
     let mut n: Words = 1;
     if BITS < s + width {
-        v = v | up(packed[LANES * (word + 1) + l], BITS - s);
+        v = v | up(packed[at + LANES], BITS - s);
         n = 2;
     }
     Single::Value(cut(v, width), n)

@@ -13,7 +13,7 @@ use Rattle.places.specs.Numbers.{number, digit, Elements}
 use Rattle.places.specs.Places.{place, lane, row}
 use Rattle.places.specs.Sizes.{Size, lanes}
 use Rattle.places.proofs.Digits.{number-ext, number-digits, digit-number, digit-lt}
-use Rattle.places.proofs.Places.{each, row-lt}
+use Rattle.places.proofs.Places.{lanes-some, row-lt}
 use Rattle.places.proofs.Tabs.{tab-ext}
 use Rattle.packing.specs.Packed.{word, part, wordsNumber, valuesNumber, wordAt, packOf, valueAt, unpackOf}
 use Rattle.plain.specs.Plain.{bit, bitAt, valueIn, plainValue, plainUnpack, bitOf, wordIn, plainPack}
@@ -42,7 +42,7 @@ bit-digit b m k j h =
 pub bit-number : (b : ℕ) (f : ℕ → ℕ) (n x : ℕ) → 0 < b → ((k : ℕ) → k < n → f k < 2 ^ b) → x < n * b
     → bit (number b f n) x ≡ bit (f (x / b)) (x % b)
 bit-number b f n x some small h =
-    let k : x / b < n = div-lt-iff-lt-mul some .1 h in
+    let k : x / b < n = div-lt-iff-lt-mul (lanes-some s) .1 h in
     ap (bit (number b f n)) (sym (ap (λ y. y + x % b) (mul-comm b (x / b)) ∙ div-add-mod' x b))
     ∙ sym (bit-digit b (number b f n) (x / b) (x % b) (mod-lt x some))
     ∙ ap (λ d. bit d (x % b)) (digit-number b f n (x / b) small k)
@@ -78,9 +78,8 @@ module _ {t : ℕ} (s : Size t) (w : ℕ) where
   pub pack-agrees : (values : List ℕ) → plainPack t w values ≡ packOf t w values
   unfolding plainPack packOf wordAt
   pack-agrees values =
-      let some : 0 < lanes t = each (λ t. 0 < lanes t) (omega arith) (omega arith) (omega arith) (omega arith) s in
       tab-ext (lanes t * w) _ _ 0
-      (λ i h. word-agrees t w values (i % lanes t) (i / lanes t) (div-lt-iff-lt-mul some .1 (subst (λ n. i < n) (mul-comm (lanes t) w) h)))
+      (λ i h. word-agrees t w values (i % lanes t) (i / lanes t) (div-lt-iff-lt-mul (lanes-some s) .1 (subst (λ n. i < n) (mul-comm (lanes t) w) h)))
 
   -- the value at a place is the one that it gives there,
   pub place-agrees : (packed : List ℕ) → Elements t packed → (p : ℕ) → p < 1024 → plainValue t w packed p ≡ valueAt t w packed p

@@ -12,7 +12,7 @@ use Rattle.places.specs.Sizes.{t64, Size, lanes}
 use Rattle.places.specs.Tab.{tab}
 use Rattle.places.specs.Transposes.{transposeOf, untransposeOf}
 use Rattle.places.proofs.Every.{same}
-use Rattle.places.proofs.Places.{each, size64, size-lanes, place-row-lane, lane-lt, row-lt, lane-place, row-place, place-lt, source-lt, target-lt}
+use Rattle.places.proofs.Places.{size64, size-some, size-lanes, place-row-lane, lane-lt, row-lt, lane-place, row-place, place-lt, source-lt, target-lt}
 use Rattle.places.proofs.Tabs.{getD-tab, tab-ext}
 use Rattle.bits.specs.Bits.{BitBlock, bit, goesTo, comesFrom, transposeBitsOf, untransposeBitsOf, bitOf}
 use Rattle.bits.specs.InnerSteps.{turnOf, byteOf}
@@ -23,21 +23,18 @@ use Rattle.places.proofs.Digits.{number-lt}
 
 -- Where a bit goes to and where it comes from are inverse to each other on 0 to 1023.
 module _ {t : ℕ} (s : Size t) where
-  positive : 0 < t
-  positive = each (λ t. 0 < t) (omega arith) (omega arith) (omega arith) (omega arith) s
-
   module _ (p : ℕ) (h : p < 1024) where
     lane-of : p / t < lanes t
-    lane-of = div-lt-iff-lt-mul positive .1 (subst (λ n. p < n) (sym (mul-comm (lanes t) t ∙ size-lanes s)) h)
+    lane-of = div-lt-iff-lt-mul (size-some s) .1 (subst (λ n. p < n) (sym (mul-comm (lanes t) t ∙ size-lanes s)) h)
 
     pub goes-lt : goesTo t p < 1024
     unfolding goesTo
-    goes-lt = place-lt s (p % t) (p / t) (mod-lt p positive) lane-of
+    goes-lt = place-lt s (p % t) (p / t) (mod-lt p (size-some s)) lane-of
 
     pub comes-goes : comesFrom t (goesTo t p) ≡ p
     unfolding goesTo comesFrom
     comes-goes =
-        let hr : p % t < t = mod-lt p positive in
+        let hr : p % t < t = mod-lt p (size-some s) in
         ap₂ (λ l r. l * t + r) (lane-place s (p % t) (p / t) hr lane-of) (row-place s (p % t) (p / t) hr lane-of) ∙ div-add-mod' p t
 
     pub comes-lt : comesFrom t p < 1024

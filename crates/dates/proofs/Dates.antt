@@ -21,7 +21,7 @@ use Rattle.places.specs.Tab.{tab}
 use Rattle.places.specs.Transposes.{transposeOf, transposeLeaves}
 use Rattle.places.proofs.Digits.{elements-of}
 use Rattle.places.proofs.Every.{Same, same}
-use Rattle.places.proofs.Places.{each, size-lanes, place-lt, lane-lt, row-lt, place-row-lane, source-lt, source-target, target-lt}
+use Rattle.places.proofs.Places.{each, size-some, size-lanes, place-lt, lane-lt, row-lt, place-row-lane, source-lt, source-target, target-lt}
 use Rattle.places.proofs.Tabs.{getD-tab, length-tab}
 use Rattle.places.proofs.Walks.{good-blocks}
 use Rattle.deltas.specs.Deltas.{deltaOf}
@@ -102,7 +102,7 @@ first-rows t s x l hl =
     ap (λ d. getD d (place 0 l) 0) (stored-is s x)
     ∙ delta-first s (transposedOf x) (x .base) l hl
     ∙ ap (λ n. minus t n (getD (x .base) l 0))
-    (row-holds s x 0 l (each (λ t. 0 < t) (lit< tt) (lit< tt) (lit< tt) (lit< tt) s) hl ∙ ap (λ i. getD (x .dates) i 0) (add-zero (source l)))
+    (row-holds s x 0 l (size-some s) hl ∙ ap (λ i. getD (x .dates) i 0) (add-zero (source l)))
 
 -- ---- the same by the number of a date
 

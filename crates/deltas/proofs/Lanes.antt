@@ -17,14 +17,13 @@ use Rattle.places.specs.Pick.{pick}
 use Rattle.places.specs.Places.{place, lane, row}
 use Rattle.places.specs.Sizes.{Size, lanes}
 use Rattle.places.specs.Tab.{tab}
-use Rattle.places.proofs.Places.{place-row-lane, lane-lt, row-lt, lane-place, row-place, place-lt}
+use Rattle.places.proofs.Places.{size-some, place-row-lane, lane-lt, row-lt, lane-place, row-place, place-lt}
 use Rattle.places.proofs.Tabs.{getD-tab, length-tab, tab-ext}
 use Rattle.rows.proofs.Rows.{sub-wraps}
 use Rattle.places.specs.Numbers.{digit, plus, minus, Elements}
 use Rattle.places.proofs.Digits.{elements-of}
 use Rattle.packing.specs.Packed.{wordsNumber, unpackOf}
 use Rattle.packing.proofs.Rounds.{length-pack, length-unpack, unpack-at, unpack-fits, value-place}
-use Rattle.packing.proofs.Turns.{size-pos}
 use Rattle.deltas.specs.Deltas.{before, deltaOf, summed, undeltaOf, frameOf, forPackOf}
 
 -- ---- sums and differences modulo 2^t
@@ -152,7 +151,7 @@ module _ {t : ℕ} (s : Size t) (v b : List ℕ) (l : ℕ) (hl : l < lanes t) wh
 
   -- Before row 0 stands the base of the lane,
   pub before-first : before t v b (place 0 l) ≡ getD b l 0
-  before-first = before-row 0 (size-pos s)
+  before-first = before-row 0 (size-some s)
 
   -- and before each later row the value of the row before.
   pub before-next : (r : ℕ) → r + 1 < t → before t v b (place (r + 1) l) ≡ getD v (place r l) 0
@@ -167,7 +166,7 @@ module _ {t : ℕ} (s : Size t) (v b : List ℕ) (l : ℕ) (hl : l < lanes t) wh
 
   -- at row 0 its value minus the base,
   pub delta-first : getD (deltaOf t v b) (place 0 l) 0 ≡ minus t (getD v (place 0 l) 0) (getD b l 0)
-  delta-first = delta-at 0 (size-pos s) ∙ ap (minus t (getD v (place 0 l) 0)) before-first
+  delta-first = delta-at 0 (size-some s) ∙ ap (minus t (getD v (place 0 l) 0)) before-first
 
   -- and at each later row its value minus the value of the row before.
   pub delta-next : (r : ℕ) → r + 1 < t → getD (deltaOf t v b) (place (r + 1) l) 0 ≡ minus t (getD v (place (r + 1) l) 0) (getD v (place r l) 0)
@@ -265,7 +264,7 @@ delta-row {t} s r h v b prev same = tab-ext (lanes t) _ _ 0 (λ l hl. ap (minus 
 -- At row 0 it holds the base,
 pub delta-row-first : {t : ℕ} (s : Size t) (v b : List ℕ)
     → tab (lanes t) (λ l. minus t (getD v (place 0 l) 0) (getD b l 0)) ≡ tab (lanes t) (λ l. minus t (getD v (place 0 l) 0) (before t v b (place 0 l)))
-delta-row-first s v b = delta-row s 0 (size-pos s) v b _ (λ l hl. sym (before-first s v b l hl))
+delta-row-first s v b = delta-row s 0 (size-some s) v b _ (λ l hl. sym (before-first s v b l hl))
 
 -- and at each later row the row before.
 pub delta-row-next : {t : ℕ} (s : Size t) (v b : List ℕ) (r : ℕ) → r + 1 < t

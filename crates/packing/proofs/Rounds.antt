@@ -8,13 +8,12 @@ use Prim.Native.Nat.{ℕ, _+_, _*_, _/_, _%_, _^_, _<_}
 use native.Mathlib.Nat.{mul-comm, mul-zero, mod-lt, mod-one, mod-eq-of-lt, div-add-mod, div-lt-iff-lt-mul}
 use native.Mathlib.Omega.{arith}
 use lib.Arith.{digits-lt, digits-div, digits-mod}
-use lib.Dec.{lit<}
 use lib.ListN.{length, getD}
 use lib.Pow.{pow-pos}
 use Rattle.places.specs.Places.{place, lane, row}
 use Rattle.places.specs.Sizes.{Size, lanes}
 use Rattle.places.specs.Tab.{tab, tabFrom}
-use Rattle.places.proofs.Places.{each, size-lanes, place-row-lane, lane-lt, row-lt, lane-place, row-place, place-lt}
+use Rattle.places.proofs.Places.{lanes-some, size-lanes, place-row-lane, lane-lt, row-lt, lane-place, row-place, place-lt}
 use Rattle.places.proofs.Tabs.{getD-tab, length-tab, tab-ext, is-tab}
 use Rattle.places.specs.Numbers.{digit, Elements}
 use Rattle.packing.specs.Packed.{word, part, wordsNumber, valuesNumber, wordAt, packOf, valueAt, unpackOf}
@@ -107,16 +106,13 @@ module _ (t w : ℕ) where
         ∙ ap (λ m. digit t m k) (number-ext w (part w v l) (part w v′ l) t (λ r hr. ap (λ n. n % 2 ^ w) (same r hr)))
         ∙ sym (word-pack l k hl hk v′)
 
--- there is a lane, and word i of a block is word i / LANES of lane i % LANES
-
-lanes-pos : {t : ℕ} → Size t → 0 < lanes t
-lanes-pos s = each (λ t. 0 < lanes t) (lit< tt) (lit< tt) (lit< tt) (lit< tt) s
+-- word i of a block is word i / LANES of lane i % LANES
 
 of-lane : {t : ℕ} → Size t → (i : ℕ) → i % lanes t < lanes t
-of-lane s i = mod-lt i (lanes-pos s)
+of-lane s i = mod-lt i (lanes-some s)
 
 of-word : {t : ℕ} → Size t → (w i : ℕ) → i < lanes t * w → i / lanes t < w
-of-word {t} s w i h = div-lt-iff-lt-mul (lanes-pos s) .1 (rw (mul-comm w (lanes t)) h)
+of-word {t} s w i h = div-lt-iff-lt-mul (lanes-some s) .1 (rw (mul-comm w (lanes t)) h)
 
 module _ {t : ℕ} (s : Size t) (w : ℕ) where
   -- The promise admits one answer: words that fit and make the sum are the packed ones.

@@ -13,7 +13,7 @@ use lib.Seq.{take-all, take-at}
 use Rattle.places.specs.Places.{order, place, nextStart}
 use Rattle.places.specs.Sizes.{Size, lanes}
 use Rattle.places.specs.Tab.{tab, tabFrom, over}
-use Rattle.places.proofs.Places.{each, place-lane, place-lt, start-next}
+use Rattle.places.proofs.Places.{size-some, size-most, place-lane, place-lt, start-next}
 use Rattle.places.proofs.Tabs.{length-tab, tab-ext, tab-append, length-over}
 use Rattle.rows.specs.Rows.{splatOf, shrOf, orShlOf, maskOf}
 use Rattle.rows.proofs.Rows.{shr-tab, mask-tab, or-shl-tab}
@@ -23,9 +23,6 @@ use Rattle.packing.specs.Packed.{word, part, wordsNumber, valuesNumber, 
 use Rattle.places.proofs.Digits.{digit-number}
 use Rattle.packing.proofs.Rounds.{word-fits, value-place, digit-words, part-lt}
 use Rattle.packing.proofs.Steps.{word-lt, second-lt, on-word, on-bit, over-word, over-bit, word-all, filling, read-one, read-two, held-zero, write-on, write-word, write-rest}
-
-pub size-pos : {t : ℕ} → Size t → 0 < t
-size-pos s = each (λ t. 0 < t) (omega arith) (omega arith) (omega arith) (omega arith) s
 
 -- row r begins at bit (r · w) mod t of word (r · w) / t
 pub begins : (t w r : ℕ) → r * w ≡ r * w / t * t + r * w % t
@@ -43,7 +40,7 @@ wordRow t packed k = tab (lanes t) (λ l. getD packed (lanes t * k + l) 0)
 
 module _ {t : ℕ} (size : Size t) (w r : ℕ) (hr : r < t) (pos : 0 < w) where
   s-lt : r * w % t < t
-  s-lt = mod-lt (r * w) (size-pos size)
+  s-lt = mod-lt (r * w) (size-some size)
 
   pub first-word : r * w / t < w
   first-word = word-lt t w r (r * w / t) (r * w % t) (begins t w r) s-lt hr pos
@@ -119,7 +116,7 @@ next-words t k = sym (ap (λ n. lanes t * n) (add-one k) ∙ mul-suc (lanes t) k
 
 module _ {t : ℕ} (size : Size t) {w r s word : ℕ} (hr : r < t) (pos : 0 < w) (at : At t w r s word) where
   pub at-lt : s < t
-  at-lt = rw (at .bit) (mod-lt (r * w) (size-pos size))
+  at-lt = rw (at .bit) (mod-lt (r * w) (size-some size))
 
   -- the words in which the row begins, and those into which it crosses, lie within the packed block
   pub at-room : word + lanes t ≤ lanes t * w
@@ -133,7 +130,7 @@ module _ {t : ℕ} (size : Size t) {w r s word : ℕ} (hr : r < t) (pos : 0 < w)
   pub at-on : s + w < t → {s′ word′ : ℕ} → s′ ≡ s + w → word′ ≡ word → At t w (r + 1) s′ word′
   at-on less es ew =
       let h = rw (at .bit) at less in
-      let lt = mod-lt (r * w) (size-pos size) in
+      let lt = mod-lt (r * w) (size-some size) in
       record {
         bit = es ∙ ap (λ n. n + w) (at .bit) ∙ sym (on-bit t w r (r * w / t) (r * w % t) (begins t w r) lt h);
         from = ew ∙ at .from ∙ ap (λ n. lanes t * n) (sym (on-word t w r (r * w / t) (r * w % t) (begins t w r) lt h));
@@ -142,7 +139,7 @@ module _ {t : ℕ} (size : Size t) {w r s word : ℕ} (hr : r < t) (pos : 0 < w)
   pub at-over : w ≤ t → t ≤ s + w → {s′ word′ : ℕ} → s′ ≡ s + w - t → word′ ≡ word + lanes t → At t w (r + 1) s′ word′
   at-over wide full es ew =
       let h = rw (at .bit) at full in
-      let lt = mod-lt (r * w) (size-pos size) in
+      let lt = mod-lt (r * w) (size-some size) in
       record {
         bit = es ∙ ap (λ n. n + w - t) (at .bit) ∙ sym (over-bit t w r (r * w / t) (r * w % t) (begins t w r) lt wide h);
         from = ew ∙ ap (λ n. n + lanes t) (at .from) ∙ next-words t (r * w / t)
@@ -265,7 +262,7 @@ row-from t r start values e = tab-ext (lanes t) _ _ 0 (λ l _. ap (λ p. getD va
 
 module _ {t : ℕ} (size : Size t) (w r : ℕ) (hr : r < t) (narrow : w < t) (values : List ℕ) where
   s-less : r * w % t < t
-  s-less = mod-lt (r * w) (size-pos size)
+  s-less = mod-lt (r * w) (size-some size)
 
   parts-small : (l i : ℕ) → i < t → part w values l i < 2 ^ w
   parts-small l i _ = part-lt t w values l i
@@ -311,7 +308,7 @@ pub record Packing (t w : ℕ) (values : List ℕ) (r : ℕ) (packed held : List
 pub starts-at : {t w : ℕ} (size : Size t) {values packed held : List ℕ} {r s word start : ℕ} → r < t → Packing t w values r packed held s word start
     → start ≡ place r 0
 starts-at size hr p =
-    let small = each (λ t. t ≤ 64) (omega arith) (omega arith) (omega arith) (omega arith) size in
+    let small = size-most size in
     p .starts ∙ ap (λ n. place n 0) (mod-eq-of-lt (omega arith))
 
 -- One turn of the walk over the words: row r joins those that are held, or fills them.
@@ -319,14 +316,14 @@ module _ {t : ℕ} (size : Size t) {w r : ℕ} (hr : r < t) (pos : 0 < w) (narro
     (p : Packing t w values r packed held s word start) {row : List ℕ} (er : row ≡ rowOf t values r) {start′ : ℕ} (en : start′ ≡ nextStart start (r + 1)) where
   next-starts : start′ ≡ place ((r + 1) % 64) 0
   next-starts =
-      let small = each (λ t. t ≤ 64) (omega arith) (omega arith) (omega arith) (omega arith) size in
+      let small = size-most size in
       en ∙ start-next r start (omega arith) (p .starts)
 
   pub packing-on : s + w < t → {more : List ℕ} → more ≡ orShlOf t held (maskOf t row w) s
       → Packing t w values (r + 1) packed more (s + w) word start′
   packing-on less {more} em =
       let h = rw (p .stands .bit) at less in
-      let same = on-word t w r (r * w / t) (r * w % t) (begins t w r) (mod-lt (r * w) (size-pos size)) h in
+      let same = on-word t w r (r * w / t) (r * w % t) (begins t w r) (mod-lt (r * w) (size-some size)) h in
       record {
         stands = at-on size hr pos (p .stands) less refl refl;
         holds = em
@@ -341,7 +338,7 @@ module _ {t : ℕ} (size : Size t) {w r : ℕ} (hr : r < t) (pos : 0 < w) (narro
       → s′ ≡ s + w - t → Packing t w values (r + 1) z rest s′ (word + lanes t) start′
   packing-full fills {full} {rest} {z} ef es ez e =
       let h = rw (p .stands .bit) at fills in
-      let next = over-word t w r (r * w / t) (r * w % t) (begins t w r) (mod-lt (r * w) (size-pos size)) (omega arith) h in
+      let next = over-word t w r (r * w / t) (r * w % t) (begins t w r) (mod-lt (r * w) (size-some size)) (omega arith) h in
       let words =
       ef ∙ ap₂ (λ x y. orShlOf t x y s) (p .holds) er
       ∙ ap (λ k. orShlOf t (heldRow t w values r) (rowOf t values r) k) (p .stands .bit)
@@ -365,7 +362,7 @@ packing-none t w values packed held e eh =
 -- after the last row all is
 pub packing-all : {t w : ℕ} (size : Size t) {values packed held : List ℕ} {r s word start : ℕ} → r ≡ t → Packing t w values r packed held s word start
     → packed ≡ packOf t w values
-packing-all {t} {w} size {r = r} e p = filled-all (r * w / t) (ap (λ n. n * w / t) e ∙ word-all t w (size-pos size)) (p .filled)
+packing-all {t} {w} size {r = r} e p = filled-all (r * w / t) (ap (λ n. n * w / t) e ∙ word-all t w (size-some size)) (p .filled)
 
 -- at width t the words of row r are the row's values
 pub copied-words : {t : ℕ} (size : Size t) (r : ℕ) (values : List ℕ) → ((p : ℕ) → p < 1024 → getD values p 0 < 2 ^ t) → r < t

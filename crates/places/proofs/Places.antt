@@ -3,10 +3,11 @@
 -- Assumes nothing.
 use mathlib.Core.Path.{_≡_, refl, sym, ap, ap₂, _∙_, subst, subst₂, subst⁻¹}
 use mathlib.Core.Logic.{⊎-elim, inl, inr}
-use Prim.Native.Nat.{ℕ, _+_, _*_, _/_, _%_, _<_}
-use native.Mathlib.Nat.{add-zero}
+use Prim.Native.Nat.{ℕ, _+_, _*_, _/_, _%_, _≤_, _<_}
+use native.Mathlib.Nat.{add-zero, mul-mod-left}
 use native.Mathlib.Omega.{arith}
 use lib.Arith.{digits-lt, digits-div, digits-mod}
+use lib.Dec.{lit<, lit≤}
 use lib.ListN.{getD}
 use Rattle.places.specs.Sizes.{t8, t16, t32, t64, Size, lanes}
 use Rattle.places.specs.Places.{order, place, nextStart, lane, row, source, target}
@@ -31,6 +32,21 @@ size32 = inr (inr (inl refl))
 
 pub size64 : Size t64
 size64 = inr (inr (inr refl))
+
+-- an element has a bit, and at most 64
+pub size-some : {t : ℕ} → Size t → 0 < t
+size-some s = each (λ t. 0 < t) (lit< tt) (lit< tt) (lit< tt) (lit< tt) s
+
+pub size-most : {t : ℕ} → Size t → t ≤ 64
+size-most s = each (λ t. t ≤ 64) (lit≤ tt) (lit≤ tt) (lit≤ tt) (lit≤ tt) s
+
+-- a block has a lane
+pub lanes-some : {t : ℕ} → Size t → 0 < lanes t
+lanes-some s = each (λ t. 0 < lanes t) (lit< tt) (lit< tt) (lit< tt) (lit< tt) s
+
+-- a value of t bits begins where its word does, and ends with it
+pub whole-word : (t r : ℕ) {w : ℕ} → w ≡ t → r * w % t + w ≤ t
+whole-word t r e = subst (λ w. r * w % t + w ≤ t) (sym e) (omega (arith, mul-mod-left r t))
 
 -- a block has t rows of LANES values
 pub size-lanes : {t : ℕ} → Size t → t * lanes t ≡ 1024

@@ -17,7 +17,7 @@ use Rattle.places.specs.Sizes.{lanes}
 pub data Taken : Type 0 where
   -- A call takes a width w, at element size t;
   a-width : (t w : ℕ) → Taken
-  -- a block of values, of index places or of dictionary places;
+  -- a block of values or of index places;
   a-block : (values : List ℕ) → Taken
   -- the packed words, at that size and width;
   a-packed : (t w : ℕ) (words : List ℕ) → Taken

@@ -1,4 +1,4 @@
--- What the plain calls answer, by the tests that they make, over the element size; and what was taken where a call is done.
+-- What the plain calls answer, by the tests that they make, over the element size; what was taken where a call is done; and what a refused call leaves.
 -- Assumes nothing.
 use mathlib.Core.Path.{_≡_}
 use mathlib.Core.List.{List}
@@ -6,10 +6,11 @@ use Prim.Native.Nat.{ℕ, _*_, _≤_, _<_}
 use lib.ListN.{length}
 use borrow.Author.Tests.{le-leb, lt-leb, le-ltb, lt-ltb, eq-eqb, ne-eqb, leb-true, ltb-true, eqb-true}
 use Rattle.places.specs.declared.Answer.the-variants.{Done, Width, Block, Packed, Index}
+use Rattle.places.specs.Answers.{numberOf}
 use Rattle.places.specs.Sizes.{lanes}
 use Rattle.places.specs.Takes.{answerFor}
-use Rattle.places.proofs.Answers.{first-passes}
-use Rattle.plain.specs.Calls.{plainTakes, plainSingleTakes}
+use Rattle.places.proofs.Answers.{left-refused, first-passes}
+use Rattle.plain.specs.Calls.{plainTakes, plainPackLeaves, plainUnpackLeaves, plainSingleTakes}
 
 -- a width, a block of values and a packed block
 
@@ -45,6 +46,16 @@ taken t w values packed e =
       block = eqb-true (length values) 1024 (second .0);
       whole = eqb-true (length packed) (lanes t * w) (third .0);
     }
+
+-- A refused call leaves what its buffer held.
+module _ (t w : ℕ) (values packed : List ℕ) (refused : numberOf (answerFor (plainTakes t w values packed)) ≡ 0 → ⊥) where
+  pub pack-refused : plainPackLeaves t w values packed ≡ packed
+  unfolding plainPackLeaves
+  pack-refused = left-refused (answerFor (plainTakes t w values packed)) _ packed refused
+
+  pub unpack-refused : plainUnpackLeaves t w values packed ≡ values
+  unfolding plainUnpackLeaves
+  unpack-refused = left-refused (answerFor (plainTakes t w values packed)) _ values refused
 
 -- a width, a packed block and an index
 

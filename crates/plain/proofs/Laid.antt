@@ -11,14 +11,10 @@ use Rattle.places.specs.Numbers.{Elements}
 use Rattle.places.specs.Places.{place}
 use Rattle.places.specs.Sizes.{Size, lanes}
 use Rattle.places.proofs.Digits.{number-ext, digit-number, number-digits}
-use Rattle.places.proofs.Places.{each}
+use Rattle.places.proofs.Places.{size-some, lanes-some}
 use Rattle.places.proofs.Tabs.{length-tab, getD-tab, is-tab}
 use Rattle.plain.specs.Plain.{bit, bitAt, bitOf, wordIn, plainPack, Laid}
 use Rattle.plain.proofs.Bits.{bitOf-small, lane-bit, word-bit}
-use Rattle.plain.proofs.Words.{size-some}
-
-lanes-some : {t : ℕ} → Size t → 0 < lanes t
-lanes-some s = each (λ t. 0 < lanes t) (omega arith) (omega arith) (omega arith) (omega arith) s
 
 -- a bit of a word is the one that it was made of
 word-of-bits : (t w : ℕ) (values : List ℕ) (l k j : ℕ) → j < t → bit (wordIn t w values l k) j ≡ bitOf t w values l k j

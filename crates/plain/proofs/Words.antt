@@ -12,17 +12,11 @@ use borrow.Author.Tests.{le-leb, lt-ltb, leb-true, ltb-true}
 use Rattle.places.specs.Pick.{pick, both}
 use Rattle.places.specs.Places.{place, lane, row}
 use Rattle.places.specs.Sizes.{Size, lanes}
-use Rattle.places.proofs.Places.{each, place-row-lane, place-lane, lane-lt, row-lt, row-place, order-lt}
+use Rattle.places.proofs.Places.{each, size-most, place-row-lane, place-lane, lane-lt, row-lt, row-place, order-lt}
 use Rattle.places.proofs.Tests.{both-true, false-true}
 use Rattle.plain.specs.Plain.{wordOf, newWord, wordsFor}
 
--- t is at most 64, and LANES at most 128
-pub size-most : {t : ℕ} → Size t → t ≤ 64
-size-most s = each (λ t. t ≤ 64) (omega arith) (omega arith) (omega arith) (omega arith) s
-
-pub size-some : {t : ℕ} → Size t → 0 < t
-size-some s = each (λ t. 0 < t) (omega arith) (omega arith) (omega arith) (omega arith) s
-
+-- LANES is at most 128
 pub lanes-most : {t : ℕ} → Size t → lanes t ≤ 128
 lanes-most s = each (λ t. lanes t ≤ 128) (omega arith) (omega arith) (omega arith) (omega arith) s
 

@@ -2,10 +2,11 @@
 -- is `answerFor` what it takes.
 -- Assumes nothing.
 use mathlib.Core.List.{List, [], _∷_}
-use Prim.Native.Nat.{ℕ, _-_, _^_}
+use Prim.Native.Nat.{ℕ}
 use Rattle.places.specs.declared.Answer.{Answer}
 use Rattle.places.specs.Answers.{isDone, left}
 use Rattle.places.specs.Pick.{pick}
+use Rattle.places.specs.Sizes.{largestU64}
 use Rattle.places.specs.Takes.{Taken, a-width, a-block, a-packed, an-index, answerFor}
 use Rattle.plain.specs.Plain.{plainValue, plainUnpack, plainPack, plainCount}
 
@@ -34,6 +35,6 @@ unfoldable pub plainSingle : {S : Type 0} → (value : (v count : ℕ) → S) (r
 plainSingle value refused t w packed index =
     given value refused (answerFor (plainSingleTakes t w packed index)) (plainValue t w packed index) (plainCount t w index)
 
--- The largest number of 64 bits stands for the count of a refused lookup, which has none.
+-- The largest u64 stands for the count of a refused lookup, which has none.
 abbrev pub noCount : ℕ
-noCount = 2 ^ 64 - 1
+noCount = largestU64

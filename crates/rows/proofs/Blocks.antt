@@ -16,7 +16,7 @@ use borrow.Author.Tests.{le-leb, lt-leb, lt-ltb, le-ltb}
 use Rattle.places.specs.Places.{place, lane, row}
 use Rattle.places.specs.Sizes.{Size, lanes}
 use Rattle.places.specs.Tab.{tab, over}
-use Rattle.places.proofs.Places.{each, place-row-lane, lane-lt, row-lt, row-place, place-lt, place-lane, row-within}
+use Rattle.places.proofs.Places.{size-most, lanes-some, place-row-lane, lane-lt, row-lt, row-place, place-lt, place-lane, row-within}
 use Rattle.places.proofs.Tabs.{length-tab, getD-tab, tab-ext, is-tab, tab-getD, length-over, getD-over-in, getD-over-before, getD-over-after}
 use Rattle.rows.specs.InnerBlocks.{rowsOver}
 use Rattle.rows.specs.Rows.{loadOf, storeOf}
@@ -28,12 +28,9 @@ by-lt n m a b = elim (decLt n m) [ yes h ↦ a h | no h ↦ b (omega arith) ]
 
 -- where a row starts
 
-pub lanes-pos : {t : ℕ} → Size t → 0 < lanes t
-lanes-pos s = each (λ t. 0 < lanes t) (omega arith) (omega arith) (omega arith) (omega arith) s
-
 pub start-room : {t : ℕ} → Size t → (r : ℕ) → r < t → place r 0 + lanes t ≤ 1024
 start-room {t} s r h =
-    let p = lanes-pos s in
+    let p = lanes-some s in
     let b : place r (lanes t - 1) < 1024 = place-lt s r (lanes t - 1) h (omega arith) in
     omega (arith, place-lane r (lanes t - 1))
 
@@ -194,7 +191,7 @@ module _ {t : ℕ} (s : Size t) {a n : ℕ} {f : ℕ → ℕ} {x y : List ℕ} (
 module _ {t : ℕ} (s : Size t) (o i q : ℕ) (hi : i < 8) (hr : o * 8 + i < t) (eq : q ≡ place (o % 8 * 8 + i % 8) 0) where
   pub start-at : q ≡ place (o * 8 + i) 0
   start-at =
-      let small : t ≤ 64 = each (λ t. t ≤ 64) (omega arith) (omega arith) (omega arith) (omega arith) s in
+      let small : t ≤ 64 = size-most s in
       eq ∙ row-within o i (omega arith) hi
 
   pub start-in : q + lanes t ≤ 1024

@@ -4,8 +4,9 @@
 // T 16 and T 8 have no table (document 02, Item 4): on a machine with little cache two tables of 1,024 numbers do not stay in it.
 // T 64 and T 32 look up in tables. So this is the one module whose text is not the same at all four sizes. Its functions
 // and their contracts are. The module is private: its functions are public to the module above alone.
-use crate::lane_by_rule;
-use crate::row_by_rule;
+//
+// The order list is not needed here: its entries 0 and 4, which are 0 and 1, are the only ones that the rule for the row asks for at T 16, and at T 8 it asks for
+// entry 0 alone.
 ghost use mathlib.Core.Path.{_≡_};
 ghost use Prim.Native.Nat.{_<_};
 ghost use lib.ListN.{getD};
@@ -15,6 +16,8 @@ ghost use Rattle.places.specs.Tab.{tab};
 ghost use Rattle.access.specs.InnerLookups.{lent};
 
 const T: usize = 8;
+
+const LANES: usize = 128;
 
 // What the lookups of a list are lent for their lanes and for their rows: nothing, and one byte stands for it.
 pub type Lanes = [u8; 1];
@@ -42,7 +45,7 @@ pub fn lane_of(place: usize) -> usize
     if 1024 <= place {
         return 0;
     }
-    lane_by_rule(T, place)
+    lane_by_rule(place)
 }
 
 // The row of one place; 0 past the block's end.
@@ -52,7 +55,7 @@ pub fn row_of(place: usize) -> usize
     if 1024 <= place {
         return 0;
     }
-    row_by_rule(T, place)
+    row_by_rule(place)
 }
 
 // The lane of one place, with what is lent for the lanes.
@@ -61,7 +64,7 @@ pub fn lane_at(lanes: &Lanes, place: usize) -> usize
     requires { ⌜ place < 1024 ⌝ }
     ensures { λ r. ⌜ r ≡ getD (tab 1024 (lane t8)) place 0 ⌝ }
 {
-    lane_by_rule(T, place)
+    lane_by_rule(place)
 }
 
 // The row of one place, with what is lent for the rows.
@@ -70,5 +73,20 @@ pub fn row_at_place(rows: &Rows, place: usize) -> usize
     requires { ⌜ place < 1024 ⌝ }
     ensures { λ r. ⌜ r ≡ getD (tab 1024 (row t8)) place 0 ⌝ }
 {
-    row_by_rule(T, place)
+    row_by_rule(place)
+}
+
+// The lane of a place.
+fn lane_by_rule(place: usize) -> usize
+    ensures { λ r. ⌜ r ≡ lane t8 place ⌝ }
+{
+    place % LANES
+}
+
+// The row of a place. Of T / 8 times eight rows, those of one eight stand 128 places from each other, and the next eight LANES places on.
+fn row_by_rule(place: usize) -> usize
+    requires { ⌜ place < 1024 ⌝ }
+    ensures { λ r. ⌜ r ≡ row t8 place ⌝ }
+{
+    place / LANES % (T / 8) * 8 + place / 128
 }

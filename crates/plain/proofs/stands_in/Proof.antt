@@ -7,7 +7,8 @@ use lib.Dec.{leb, ltb}
 use Prim.Native.Nat.{_+_}
 use Rattle.places.specs.Pick.{both}
 use Rattle.places.specs.Sizes.{lanes}
-use Rattle.plain.proofs.Words.{size-some, lanes-most, row-most, and-both}
+use Rattle.places.proofs.Places.{size-some}
+use Rattle.plain.proofs.Words.{lanes-most, row-most, and-both}
 use Rattle.plain.proofs.stands_in.Statement.{statement}
 use Rattle.plain.proofs.stands_in.Tie as tie
 

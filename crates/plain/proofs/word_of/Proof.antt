@@ -4,7 +4,8 @@ use mathlib.Core.Path.{refl}
 use Prim.Native.Nat.{_*_, _≤_}
 use native.Mathlib.Omega.{arith}
 use borrow.Author.Needs.{needs}
-use Rattle.plain.proofs.Words.{lane-bits, size-most}
+use Rattle.places.proofs.Places.{size-most}
+use Rattle.plain.proofs.Words.{lane-bits}
 use Rattle.plain.proofs.word_of.Statement.{statement}
 use Rattle.plain.proofs.word_of.Tie as tie
 

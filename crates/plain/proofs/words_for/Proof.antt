@@ -3,8 +3,9 @@
 use mathlib.Core.Path.{_≡_, refl, sym, ap, ap₂, _∙_}
 use Prim.Native.Nat.{_+_, _-_, _≤_}
 use native.Mathlib.Omega.{arith}
+use Rattle.places.proofs.Places.{size-most}
 use Rattle.plain.specs.Plain.{wordsFor}
-use Rattle.plain.proofs.Words.{words-next, words-few, size-most}
+use Rattle.plain.proofs.Words.{words-next, words-few}
 use Rattle.plain.proofs.words_for.Statement.{statement}
 use Rattle.plain.proofs.words_for.Tie as tie
 

@@ -13,13 +13,13 @@ use borrow.Author.Needs.{needs}
 use Rattle.places.specs.Sizes.{t8}
 use Rattle.places.proofs.Tabs.{Written, written-none, written-length, written-next, written-all}
 use Rattle.places.specs.declared.Answer.{Answer}
-use Rattle.access.specs.declared.t8.Single.{Single}
 use Rattle.access.specs.declared.t8.Single.the-variants.{Value, Refused}
 use Rattle.access.specs.declared.Listed.the-variants.{Words}
 use Rattle.access.specs.Calls.{listOf}
+use Rattle.access.specs.t8.{valueOf, wordsOf}
 use Rattle.access.specs.Counts.{countAt, countsOf, sumOf}
 use Rattle.packing.specs.Packed.{valueAt}
-use Rattle.access.proofs.Counts.{Seconds, seconds-none, seconds-small, seconds-all, seconds-more, seconds-same, list-twice, list-unheld}
+use Rattle.access.proofs.Counts.{has-count, Seconds, seconds-none, seconds-small, seconds-all, seconds-more, seconds-same, list-twice, list-unheld}
 use Rattle.access.proofs.t8.look_up_all.Statement.{statement}
 use Rattle.access.proofs.t8.look_up_all.Tie as tie
 
@@ -65,11 +65,8 @@ answered c =
     c .look-up .ensures ∙ rw good
 
 -- so it is no refusal
-never : (x : Single) (v n : ℕ) (a : Answer) → x ≡ Value v n → x ≡ Refused a → ⊥
-never x v n a p q = let z : _≡_ {A = ℕ} 0 1 = cc in omega arith
-
-same-value : (x : Single) (v w m n : ℕ) → x ≡ Value v m → x ≡ Value w n → (v ≡ w) × (m ≡ n)
-same-value x v w m n p q = (cc, cc)
+never : (c : tie.After-look-up Inv-loop μ-loop) (a : Answer) → c .look-up .result ≡ Refused a → ⊥
+never c a e = has-count t8 _ _ (ap wordsOf (sym (answered c) ∙ e))
 
 enum-known-found : tie.Need-enum-known-found Inv-loop μ-loop
 enum-known-found c = search needs
@@ -84,10 +81,10 @@ at-entry-requires : tie.Need-at-entry-requires Inv-loop μ-loop
 at-entry-requires c κs = search needs
 
 same-length : tie.Need-same-length Inv-loop μ-loop
-same-length c = absurd (never _ _ _ _ (answered (c .before .before .before .before)) (c .before .before .enum-told .given .1))
+same-length c = absurd (never (c .before .before .before .before) _ (c .before .before .enum-told .given .1))
 
 returns : tie.Need-returns Inv-loop μ-loop
-returns c = absurd (never _ _ _ _ (answered (c .before .before .before .before)) (c .before .before .enum-told .given .1))
+returns c = absurd (never (c .before .before .before .before) _ (c .before .before .enum-told .given .1))
 
 slice-write-output : tie.Need-slice-write-output Inv-loop μ-loop
 slice-write-output c = omega (arith, written-length (c .before .before .before .before .before .before .before .before .loop .inv .1))
@@ -97,7 +94,7 @@ gives : (c : tie.After-look-up Inv-loop μ-loop) (v n : ℕ) → c .look-up .res
     → let start = c .before .before .before .before .before .before .before .before .before .before .before in
     let index = getD (now (start .args .indices)) (c .before .before .before .before .before .loop .i) 0 in
     (v ≡ valueAt t8 (start .args .width) (now (start .args .packed)) index) × (n ≡ countAt t8 (start .args .width) index)
-gives c v n e = same-value _ _ _ _ _ e (answered c)
+gives c v n e = let same = sym e ∙ answered c in (ap valueOf same, ap wordsOf same)
 
 add-seconds : tie.Need-add-seconds Inv-loop μ-loop
 add-seconds c =
