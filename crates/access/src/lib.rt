@@ -20,7 +20,7 @@ ghost use Rattle.access.specs.InnerEntries.{atEntry};
 pub type Words = u64;
 
 // What stands for a count where there is none.
-pub const NO_COUNT: Words = 0xFFFF_FFFF_FFFF_FFFF;
+pub const NO_COUNT: Words = u64::MAX;
 
 // What access by a list gives: the words of all its lookups, or the refusal.
 pub enum Listed {

@@ -10,7 +10,7 @@ use native.Mathlib.Omega.{arith}
 use lib.ListN.{length, getD, drop, drop-of-length-le}
 use lib.Seq.{drop-cons}
 use Rattle.places.specs.Numbers.{Elements}
-use Rattle.places.specs.Sizes.{t64}
+use Rattle.places.specs.Sizes.{t64, largestU64}
 use Rattle.bodies.specs.Ranges.{lowestOf}
 
 -- No number of a list is lower than the lowest;
@@ -44,7 +44,7 @@ pub record Passed (xs : List ℕ) (low i : ℕ) : Type 0 where
   pub small : low < 18446744073709551616
   pub same : min low (lowestOf (drop i xs)) ≡ lowestOf xs
 
-pub passed-none : (xs : List ℕ) → Passed xs 18446744073709551615 0
+pub passed-none : (xs : List ℕ) → Passed xs largestU64 0
 passed-none xs = record { within = omega arith; small = omega arith; same = omega (arith, lowest-element xs) }
 
 pub passed-next : {xs : List ℕ} {low i : ℕ} (next : ℕ) → Passed xs low i → i < length xs → next ≡ min low (getD xs i 0) → Passed xs next (i + 1)

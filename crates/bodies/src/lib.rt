@@ -61,7 +61,7 @@ pub fn block_of(e: Entry, body: &[u8], output: &mut [u64]) -> FileAnswer
 pub fn range_of(values: &[u64]) -> Range
     ensures { λ r. ⌜ (r .smallest ≡ lowestOf (now (values .entry))) × (r .largest ≡ highestOf (now (values .entry))) ⌝ }
 {
-    let mut low: u64 = 18446744073709551615;
+    let mut low: u64 = u64::MAX;
     let mut high: u64 = 0;
     let mut i = 0;
     while i < values.len() {

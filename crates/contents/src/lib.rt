@@ -236,7 +236,7 @@ pub fn any_range() -> Range
 {
     Range {
         smallest: 0,
-        largest: 18446744073709551615,
+        largest: u64::MAX,
     }
 }
 

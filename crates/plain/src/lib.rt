@@ -19,7 +19,7 @@ ghost use Rattle.places.specs.Sizes.{Size, lanes};
 ghost use Rattle.plain.specs.Plain.{wordOf, newWord, wordsFor};
 
 // What stands for a count where there is none.
-pub const NO_COUNT: usize = 0xFFFF_FFFF_FFFF_FFFF;
+pub const NO_COUNT: usize = usize::MAX;
 
 // The place of a row in a lane.
 fn place(row: usize, lane: usize) -> usize
