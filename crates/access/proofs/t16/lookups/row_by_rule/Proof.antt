@@ -5,28 +5,17 @@ use Rattle.access.proofs.Lookups.{small-t16, row-by-eights}
 use Rattle.access.proofs.t16.lookups.row_by_rule.Statement.{statement}
 use Rattle.access.proofs.t16.lookups.row_by_rule.Tie as tie
 
-div-result : tie.Need-div-result
-div-result c = omega arith
-
-div-result-2 : tie.Need-div-result-2
-div-result-2 c = omega arith
-
 rem-result : tie.Need-rem-result
 rem-result c = omega arith
 
 mul-result : tie.Need-mul-result
 mul-result c = omega arith
 
-div-result-3 : tie.Need-div-result-3
-div-result-3 c = omega arith
-
 add-result : tie.Need-add-result
 add-result c = omega arith
 
 returns : tie.Need-returns
-returns c = row-by-eights small-t16 (c .args .place) c .pre
+returns c = row-by-eights small-t16 (c .args .place) (c .pre)
 
 pub row-by-rule-spec : {M : Type 1} → statement M
-row-by-rule-spec =
-    tie.close
-    (tie.spec div-result div-result-2 rem-result mul-result div-result-3 add-result returns)
+row-by-rule-spec = tie.close (tie.spec rem-result mul-result add-result returns)
