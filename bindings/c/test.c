@@ -250,12 +250,14 @@ static void body_refusals(void)
     nine[2048] = 7;
     memcpy(file, sevens1, 20);
     memcpy(file + 20, runs, 16);
+    file[2] = 2;
     expect_body("kind 3 in edition 1", file, 36, 1, FASCJOLDI_DONE);
     expect("kind 3 in edition 1, last value", out64[1023], 7);
     memset(out64, 77, 8192);
     memcpy(file, sevens2, 36);
     memcpy(file + 36, runs, 16);
     memcpy(file + 52, sevens2 + 20, 16);
+    file[2] = 2;
     expect_body("kind 3 in edition 2", file, 68, 1, FASCJOLDI_BAD_ENTRY);
     expect_body("no entry", file, 68, 2, FASCJOLDI_BAD_ENTRY);
     memcpy(file + 36, sevens2 + 4, 32);
