@@ -38,8 +38,9 @@ extern "C" {
 enum fascjoldi_number {
     FASCJOLDI_DONE = 0, /* the call is done */
     FASCJOLDI_WIDTH = 1, /* the width is above T; of chunks: the width is above 64 */
-    FASCJOLDI_BLOCK = 2, /* a buffer for a block is not 1,024 long; of a file: a block that is lent is not 1,024 long, or the
-        numbers to be written are no whole blocks or more than 256 of them; of chunks: the output is not 1,024 long */
+    FASCJOLDI_BLOCK = 2, /* a buffer for a block is not 1,024 long; of a file: a block or the room for places that is lent is not
+        1,024 long, or the numbers to be written are no whole blocks or more than 256 of them; of chunks: the output is not 1,024
+        long */
     FASCJOLDI_PACKED = 3, /* the packed length is not LANES times the width */
     FASCJOLDI_BASE = 4, /* the base is not LANES long */
     FASCJOLDI_LISTS = 5, /* an index list and its output differ in length */
@@ -53,8 +54,7 @@ enum fascjoldi_number {
     FASCJOLDI_OVER = 11, /* of a file: there are bytes after the last body */
     FASCJOLDI_BEYOND = 12, /* of a file: there is no block, or no row, with this number */
     FASCJOLDI_RUNS = 13, /* of a file: a run index is out of range; the lowest block that has one */
-    FASCJOLDI_ROOM = 14, /* of a file: the output is shorter than what is to be written: the file, one body of it, or the rows
-        that were found */
+    FASCJOLDI_ROOM = 14, /* of a file: the output, or the room for rows, is too short for what is to be written there */
     FASCJOLDI_RANGE = 15, /* of a file: a smallest or largest value is not the body's true one; the lowest block that has one */
     FASCJOLDI_EARLY = 16, /* of chunks: the values are asked for too early; the bytes held so far */
     FASCJOLDI_FOREIGN = 17, /* of a file: a block is not as our writer would write it; the lowest such block */
@@ -299,19 +299,20 @@ FASCJOLDI_BOOL fascjoldi_front_same_range(const uint8_t *left, size_t left_lengt
 uint16_t fascjoldi_front_blocks_in_both(const uint8_t *left, size_t left_length, const uint8_t *right, size_t right_length);
 
 /* Checks one body against the contents, and lays down its 1,024 numbers. Of 8 and 11 it is the body that is cut short or too
-   long; 10, also where there is no such block, has the place 0, and 13 has the block. */
+   long; 10, also where the front has no such entry, and 13 have the block as place. */
 size_t fascjoldi_body_block_out(const uint8_t *front, size_t front_length, size_t block, const uint8_t *body, size_t body_length,
     uint64_t *output, size_t output_length, size_t *place);
 
-/* Checks the smallest and the largest of a block's numbers, which were laid down, against what the contents say: 15 with the
-   block, and nothing is tested in edition 1, which says none. Any length of values is taken. */
+/* Checks the smallest and the largest of a block's numbers, which were laid down, against what the contents say: 10 with the
+   block where its entry is not right, then 15 with the block; edition 1 says no smallest and largest number, so there 15 is not
+   given. Any length of values is taken. */
 size_t fascjoldi_body_check_range(const uint8_t *front, size_t front_length, size_t block, const uint64_t *values,
     size_t values_length, size_t *place);
 
-/* Lists the places at which two blocks of 1,024 numbers differ, rising, and says how many they are. The places behind these stay
-   as they were; so do all, and the result is 0, where a block or the room is not 1,024 long. */
+/* Lists the places at which two blocks of 1,024 numbers differ, rising, and gives how many they are; refused, the count is 0. The
+   places behind these stay as they were. A block or room for places that is not 1,024 long is refused with 2. */
 size_t fascjoldi_block_differing(const uint64_t *left, size_t left_length, const uint64_t *right, size_t right_length,
-    uint16_t *places, size_t places_length);
+    uint16_t *places, size_t places_length, size_t *count, size_t *place);
 
 /* ---- The calls on a packed uint64_t body that comes in chunks. The program keeps the state, which is *width, *held and room,
    and lends it to each call as the call before left it. A start writes all of it, also when it is refused. */

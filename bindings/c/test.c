@@ -190,7 +190,8 @@ static void files(void)
     expect("row found", values64[1024], 3);
     expect("blocks opened", opened, 1);
     expect("sevens read", fascjoldi_file_block_out(sevens1, 20, 0, values64, 1024, &place), FASCJOLDI_DONE);
-    expect("places that differ", fascjoldi_block_differing(values64, 1024, out64, 1024, places16, 1024), 1);
+    expect("compared", fascjoldi_block_differing(values64, 1024, out64, 1024, places16, 1024, &found, &place), FASCJOLDI_DONE);
+    expect("places that differ", found, 1);
     expect("the place", places16[0], 3);
     expect("left", values64[3], 7);
     expect("right", out64[3], 9);
@@ -229,6 +230,56 @@ static void fronts(void)
     expect("range checked", fascjoldi_body_check_range(nine, 36, 0, values64, 1024, &place), FASCJOLDI_DONE);
     values64[5] = 10;
     expect("range refused", fascjoldi_body_check_range(nine, 36, 0, values64, 1024, &place), FASCJOLDI_RANGE);
+}
+
+static void expect_body(const char *what, const uint8_t *front, size_t length, size_t block, size_t number)
+{
+    expect(what, fascjoldi_body_block_out(front, length, block, nine, 2056, out64, 1024, &place), number);
+    expect(what, place, number ? block : 0);
+    expect(what, fascjoldi_body_check_range(front, length, block, out64, 1024, &place), number);
+    expect(what, place, number ? block : 0);
+}
+
+/* What one body and one pair of blocks are refused with. The second of two entries is of kind 3, with one run value, a seven: right in edition 1, and
+   not in edition 2, where its range is from 7 to 7. */
+static void body_refusals(void)
+{
+    size_t count = 77;
+    static const uint8_t runs[16] = {3, 0, 0, 0, 2056 % 256, 2056 / 256};
+    memset(nine, 0, 2056);
+    nine[2048] = 7;
+    memcpy(file, sevens1, 20);
+    memcpy(file + 20, runs, 16);
+    file[2] = 2;
+    expect_body("kind 3 in edition 1", file, 36, 1, FASCJOLDI_DONE);
+    expect("kind 3 in edition 1, last value", out64[1023], 7);
+    memset(out64, 77, 8192);
+    memcpy(file, sevens2, 36);
+    memcpy(file + 36, runs, 16);
+    memcpy(file + 52, sevens2 + 20, 16);
+    file[2] = 2;
+    expect_body("kind 3 in edition 2", file, 68, 1, FASCJOLDI_BAD_ENTRY);
+    expect_body("no entry", file, 68, 2, FASCJOLDI_BAD_ENTRY);
+    memcpy(file + 36, sevens2 + 4, 32);
+    file[60] = 6;
+    expect_body("smallest above largest", file, 68, 1, FASCJOLDI_BAD_ENTRY);
+    file[60] = 7;
+    file[36] = 4;
+    expect_body("kind 4", file, 68, 1, FASCJOLDI_BAD_ENTRY);
+    expect_bytes("refused bodies' output", out64, 8192, 77);
+    memset(places16, 77, sizeof places16);
+    expect("left short", fascjoldi_block_differing(values64, 1023, out64, 1024, places16, 1024, &count, &place), FASCJOLDI_BLOCK);
+    expect("left short, count", count, 0);
+    count = 77;
+    expect("right long", fascjoldi_block_differing(out64, 1024, values64, 1025, places16, 1024, &count, &place), FASCJOLDI_BLOCK);
+    expect("right long, count", count, 0);
+    count = 77;
+    expect("room short", fascjoldi_block_differing(out64, 1024, values64, 1024, places16, 1023, &count, &place), FASCJOLDI_BLOCK);
+    expect("room short, count", count, 0);
+    count = 77;
+    expect("equal", fascjoldi_block_differing(out64, 1024, out64, 1024, places16, 1024, &count, &place), FASCJOLDI_DONE);
+    expect("equal, count", count, 0);
+    expect_bytes("refused and equal blocks' places", places16, sizeof places16, 77);
 }
 
 static void expect_file(const char *what, size_t length, size_t number, size_t at)
@@ -343,6 +394,7 @@ int main(void)
     refusals();
     files();
     fronts();
+    body_refusals();
     file_refusals();
     many();
     put_number(looked_at);

@@ -150,16 +150,9 @@ pub fn body_check_range(front: &[u8], block: usize, values: &[u64]) -> Result<()
     asked!(columns::body_check_range(front.as_ptr(), front.len(), block, values.as_ptr(), values.len()) gives ())
 }
 
-/// Lists the places at which two blocks of 1,024 numbers differ, rising, and says how many they are; 0 where a block or the room is not 1,024 long.
-pub fn differing(left: &[u64], right: &[u64], places: &mut [u16]) -> usize {
-    unsafe {
-        sys::columns::block_differing(
-            left.as_ptr(),
-            left.len(),
-            right.as_ptr(),
-            right.len(),
-            places.as_mut_ptr(),
-            places.len(),
-        )
-    }
+/// Lists the places at which two blocks of 1,024 numbers differ, rising, and gives how many they are.
+pub fn differing(left: &[u64], right: &[u64], places: &mut [u16]) -> Result<usize, Refused> {
+    let mut count = 0;
+    asked!(columns::block_differing(left.as_ptr(), left.len(), right.as_ptr(), right.len(), places.as_mut_ptr(), places.len(), &mut count)
+        gives count)
 }

@@ -266,7 +266,7 @@ pub mod columns {
             place: &mut usize) -> usize;
         #[link_name = "fascjoldi_block_differing"]
         pub fn block_differing(left: *const u64, left_length: usize, right: *const u64, right_length: usize, places: *mut u16,
-            places_length: usize) -> usize;
+            places_length: usize, count: &mut usize, place: &mut usize) -> usize;
     }
 }
 

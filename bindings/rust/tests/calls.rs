@@ -97,7 +97,7 @@ fn a_file_is_written_read_and_compared() {
     assert_eq!(files::block_out(&SEVENS_1, 0, &mut left), Ok(()));
     assert_eq!(files::block_out(file, 0, &mut right), Ok(()));
     assert_eq!(right, values);
-    assert_eq!(files::differing(&left, &right, &mut places), 1);
+    assert_eq!(files::differing(&left, &right, &mut places), Ok(1));
     assert_eq!((places[0], left[3], right[3]), (3, 7, 9));
     let found = files::search(file, 8, 10, &mut left).unwrap();
     assert_eq!((found.rows, found.opened, left[0]), (1, 1, 3));
@@ -127,6 +127,32 @@ fn files_are_refused() {
     assert_eq!(files::check(&file), refused(15, 0));
     file[28] = 6;
     assert_eq!(files::check(&file), refused(10, 0));
+}
+
+#[test]
+fn one_body_is_refused() {
+    let (mut output, mut places) = ([77; 1024], [77; 1024]);
+    // The second of two entries is of kind 3, with one run value, a seven; in edition 2 its range is from 7 to 7.
+    let runs = [3, 0, 0, 0, 8, 8, 0, 0, 0, 0, 0, 0, 0, 0, 0, 0];
+    let body = [&[0; 2048][..], &[7, 0, 0, 0, 0, 0, 0, 0]].concat();
+    let first = [&[1, 0, 2, 0][..], &SEVENS_1[4..], &runs].concat();
+    assert_eq!(files::body_block_out(&first, 1, &body, &mut output), Ok(()));
+    assert_eq!(files::body_check_range(&first, 1, &output), Ok(()));
+    assert_eq!(output, [7; 1024]);
+    let second = [&[2, 0, 2, 0][..], &SEVENS_2[4..], &runs, &SEVENS_2[20..]].concat();
+    assert_eq!(files::body_block_out(&second, 1, &body, &mut output), refused(10, 1));
+    assert_eq!(files::body_check_range(&second, 1, &output), refused(10, 1));
+    assert_eq!(files::body_block_out(&second, 2, &body, &mut output), refused(10, 2));
+    // The smallest number is above the largest.
+    let mut file = SEVENS_2;
+    file[28] = 6;
+    assert_eq!(files::body_block_out(&file, 0, &[], &mut output), refused(10, 0));
+    assert_eq!(files::body_check_range(&file, 0, &output), refused(10, 0));
+    assert_eq!(files::differing(&output, &output[1..], &mut places), refused(2, 0));
+    assert_eq!(files::differing(&output[1..], &output, &mut places), refused(2, 0));
+    assert_eq!(files::differing(&output, &output, &mut places[1..]), refused(2, 0));
+    assert_eq!(files::differing(&output, &output, &mut places), Ok(0));
+    assert_eq!((output, places), ([7; 1024], [77; 1024]));
 }
 
 #[test]

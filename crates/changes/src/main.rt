@@ -242,7 +242,7 @@ fn compare_block(
 
 // Compares block i of both files, which are laid down. Their ranges are looked at again where a row is listed, and where the files
 // do not say the same one: equal blocks with equal ranges are both right or both wrong, so that a change of one file does not hide
-// there.
+// there. The blocks and the room for places are arrays of 1,024, so that `differing` refuses none of them.
 fn compare_laid(
     i: usize,
     left_front: &[u8],
@@ -251,7 +251,12 @@ fn compare_laid(
     right_block: &[u64],
     places: &mut [u16],
 ) -> Found {
-    let k = differing(left_block, right_block, places);
+    let compared = differing(left_block, right_block, places);
+    let answer = compared.answer();
+    if answer.number() != 0 {
+        return Found::Left(answer);
+    }
+    let k = compared.count();
     if k == 0 {
         if same_range(left_front, right_front, i) {
             return Found::Places(0);

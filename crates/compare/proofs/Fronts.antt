@@ -35,6 +35,7 @@ module _ (l : List ℕ) (k : ℕ) (four : 4 ≤ k) (all : count l ≤ 256 → co
         little-within (take k l) 2 2 (omega (arith, length-take k l, whole l done .head)) ∙ Fronts.count-front l k four all;
     entry-is = λ done. Fronts.entry-or-front l k four all (whole l done .few) (whole l done .room);
     range-is = λ done. Fronts.range-or-front l k four all (whole l done .few) (whole l done .room);
+    right-is = λ done i h. Fronts.right-or-front l k four all (whole l done .few) (whole l done .room) i h ∙ whole l done .right i h;
   }
 
 -- A front has the first four bytes, and by these the contents.

@@ -1,4 +1,5 @@
--- What the loops over two blocks keep: one that joins all the differences, and one that writes the places at which the blocks differ.
+-- What the loops over two blocks keep: one that joins all the differences, and one that writes the places at which the blocks differ; and what the
+-- comparison gives and leaves.
 -- Assumes nothing.
 use mathlib.Core.Bool.{Bool, true, false}
 use mathlib.Core.List.{List, [], _∷_, append-nil}
@@ -13,8 +14,14 @@ use lib.ListN.{length, getD, set, length-append}
 use borrow.Author.Tests.{eq-eqb, ne-eqb, eqb-true}
 use Rattle.places.specs.Tab.{over}
 use Rattle.places.proofs.Overs.{set-over, length-over, over-nothing, over-append}
-use Rattle.places.specs.Pick.{pick, both}
-use Rattle.compare.specs.Changes.{failingFrom, isSame, differing, listedOf}
+use Rattle.places.specs.Pick.{pick}
+use Rattle.contents.specs.declared.FileAnswer.{FileAnswer}
+use Rattle.contents.specs.declared.FileAnswer.the-variants.{Done}
+use Rattle.contents.specs.Answers.{fileAnswer, numberOf, isDone, left as leaves}
+use Rattle.contents.proofs.Accepted.{done-first}
+use Rattle.compare.specs.declared.Compared.{Compared}
+use Rattle.compare.specs.declared.Compared.the-variants.{Places, Refused}
+use Rattle.compare.specs.Changes.{failingFrom, isSame, differing, differingTests, comparedOf, differingLeaves}
 use Rattle.compare.specs.InnerSame.{sameOf}
 use Rattle.compare.proofs.Failing.{failing-passed, failing-failed, failing-few, failing-none, failing-all}
 
@@ -140,48 +147,49 @@ noted-all {left} {right} {x} {y} {n} {i} t h =
       t .is ∙ ap (λ k. over 0 (failingFrom 0 k (isSame left right)) x) z,
     )
 
--- ---- what is listed, by the lengths
+-- ---- what the comparison gives and leaves, by the lengths
 
 module _ (left right places : List ℕ) where
-  abbrev whole : Bool
-  whole = both (eqb (length left) 1024) (both (eqb (length right) 1024) (eqb (length places) 1024))
+  -- the outcome of the call is this result, with this in the room for places
+  abbrev Outcome : Compared → List ℕ → Type 0
+  Outcome r room = (r ≡ comparedOf left right places) × (room ≡ differingLeaves left right places)
 
-  listed-by : (t : Bool) → whole ≡ t → listedOf left right places ≡ pick t (differing left right) []
-  unfolding listedOf
-  listed-by t e = ap (λ t. pick t (differing left right) []) e
+  by-answer : {a : FileAnswer} → fileAnswer (differingTests left right places) ≡ a
+      → Outcome (pick (isDone a) (Places (length (differing left right))) (Refused a)) (leaves a (over 0 (differing left right) places) places)
+  unfolding comparedOf differingLeaves
+  by-answer e = (
+    sym (ap (λ a. pick (isDone a) (Places (length (differing left right))) (Refused a)) e),
+    sym (ap (λ a. leaves a (over 0 (differing left right) places) places) e),
+  )
 
-  -- Where nothing is listed, the room stays as it was.
-  nothing : listedOf left right places ≡ [] → (0 ≡ length (listedOf left right places)) × (places ≡ over 0 (listedOf left right places) places)
-  nothing e = (sym (ap length e), sym (ap (λ l. over 0 l places) e ∙ over-nothing 0 places))
+  -- A length that is not 1,024 is refused, and nothing is written.
+  pub lengths-refused : {a : FileAnswer} → a ≡ fileAnswer (differingTests left right places) → (numberOf a ≡ 0 → ⊥) → Outcome (Refused a) places
+  lengths-refused {a} e n =
+      let all = by-answer (sym e) in
+      let other = ne-eqb (numberOf a) 0 n in (
+        sym (ap (λ t. pick t (Places (length (differing left right))) (Refused a)) other) ∙ all .0,
+        sym (ap (λ t. pick t (over 0 (differing left right) places) places) other) ∙ all .1,
+      )
 
-  pub bad-left : (length left ≡ 1024 → ⊥) → (0 ≡ length (listedOf left right places)) × (places ≡ over 0 (listedOf left right places) places)
-  bad-left n = nothing (listed-by false (ap (λ t. both t (both (eqb (length right) 1024) (eqb (length places) 1024))) (ne-eqb (length left) 1024 n)))
+  module _ (done : fileAnswer (differingTests left right places) ≡ Done) where
+    -- Where all three are, they are 1,024 long,
+    pub lengths-are : (length left ≡ 1024) × ((length right ≡ 1024) × (length places ≡ 1024))
+    lengths-are =
+        let l = done-first _ _ done in
+        let r = done-first _ _ (l .1) in
+        let p = done-first _ _ (r .1) in
+        (eqb-true (length left) 1024 (l .0), (eqb-true (length right) 1024 (r .0), eqb-true (length places) 1024 (p .0)))
 
-  module _ (l : length left ≡ 1024) where
-    pub bad-right : (length right ≡ 1024 → ⊥) → (0 ≡ length (listedOf left right places)) × (places ≡ over 0 (listedOf left right places) places)
-    bad-right n =
-        nothing (listed-by false
-        (ap₂ (λ s t. both s (both t (eqb (length places) 1024))) (eq-eqb (length left) 1024 l) (ne-eqb (length right) 1024 n)))
+    -- the places that differ are counted and written,
+    pub some-differ : {n : ℕ} {y : List ℕ} → n ≡ length (differing left right) → y ≡ over 0 (differing left right) places → Outcome (Places n) y
+    some-differ many is = let all = by-answer done in (ap Places many ∙ all .0, is ∙ all .1)
 
-    module _ (r : length right ≡ 1024) where
-      halves : (t : Bool) → eqb (length places) 1024 ≡ t → whole ≡ t
-      halves t e =
-          ap₂ (λ s u. both s (both u (eqb (length places) 1024))) (eq-eqb (length left) 1024 l) (eq-eqb (length right) 1024 r) ∙ e
-
-      pub bad-room : (length places ≡ 1024 → ⊥) → (0 ≡ length (listedOf left right places)) × (places ≡ over 0 (listedOf left right places) places)
-      bad-room n = nothing (listed-by false (halves false (ne-eqb (length places) 1024 n)))
-
-      module _ (p : length places ≡ 1024) where
-        pub all-whole : listedOf left right places ≡ differing left right
-        all-whole = listed-by true (halves true (eq-eqb (length places) 1024 p))
-
-        pub none-differ : sameOf left right ≡ true → (0 ≡ length (listedOf left right places)) × (places ≡ over 0 (listedOf left right places) places)
-        none-differ e = nothing (all-whole ∙ empty (differing left right) (eqb-true (length (differing left right)) 0 e))
-          where
-            empty : (list : List ℕ) → length list ≡ 0 → list ≡ []
-            empty [] e = refl
-            empty (x ∷ list) e = absurd (omega arith)
-
-        pub some-differ : {n : ℕ} {y : List ℕ} → n ≡ length (differing left right) → y ≡ over 0 (differing left right) places
-            → (n ≡ length (listedOf left right places)) × (y ≡ over 0 (listedOf left right places) places)
-        some-differ many is = (many ∙ ap length (sym all-whole), is ∙ ap (λ l. over 0 l places) (sym all-whole))
+    -- and blocks that are the same have none.
+    pub none-differ : sameOf left right ≡ true → Outcome (Places 0) places
+    none-differ e =
+        let none = empty (differing left right) (eqb-true (length (differing left right)) 0 e) in
+        some-differ (sym (ap length none)) (sym (ap (λ l. over 0 l places) none ∙ over-nothing 0 places))
+      where
+        empty : (list : List ℕ) → length list ≡ 0 → list ≡ []
+        empty [] e = refl
+        empty (x ∷ list) e = absurd (omega arith)

@@ -1,50 +1,38 @@
--- The answer after all bodies of a file is the answer to the whole file: 13 for any block comes before 15 for any, with the lowest block as
--- place.
+-- The answer after all bodies of a file is the answer to the whole file. The file's tests ask the run indices of all blocks first and then the ranges
+-- of all, and the bodies come one after another: that is the same, since no file has both a run index out of range and a range that is not the true one.
 -- Assumes nothing.
 use mathlib.Core.Bool.{Bool, true, false}
 use mathlib.Core.List.{List, [], _∷_}
 use mathlib.Core.Path.{_≡_, refl, sym, ap, ap₂, subst, _∙_}
 use Prim.Native.Nat.{ℕ, zero, suc, _≤_, _<_}
 use native.Mathlib.Decide.{decLe, ℕ-discrete}
+use native.Mathlib.Numerals.{add-one}
 use native.Mathlib.Omega.{arith}
-use lib.Dec.{eqb}
+use lib.Dec.{eqb, ltb}
 use lib.ListN.{length}
-use borrow.Author.Tests.{eq-eqb, ne-eqb}
-use Rattle.places.specs.Pick.{pick, either}
+use borrow.Author.Tests.{eq-eqb, ne-eqb, ltb-true}
+use Rattle.places.specs.Pick.{pick}
+use Rattle.places.proofs.Tests.{false-true}
 use Rattle.contents.specs.declared.FileAnswer.{FileAnswer}
 use Rattle.contents.specs.declared.FileAnswer.the-variants.{Done, Runs, Range}
-use Rattle.contents.specs.Answers.{FileTest, good-runs, true-ranges, passes, refusal, fileAnswer, numberOf}
-use Rattle.contents.specs.Contents.{edition, count, editionOr, countOr, entryOf, entryOr, rangeOf, rangeOr, contentsTests}
+use Rattle.contents.specs.Answers.{good-runs, true-ranges, fileAnswer, numberOf, left}
+use Rattle.contents.specs.Contents.{edition, count, editionOr, countOr, contentsSize, entryOf, entryOr, rangeOf, rangeOr, hasRightEntry, contentsTests}
+use Rattle.contents.proofs.Accepted.{whole-taken}
 use Rattle.contents.proofs.Answers.{passed, stopped, none-left, in-front-done, in-front-refused, number-done}
+use Rattle.contents.proofs.Entries.{right-there}
 use Rattle.contents.proofs.First.{first-only}
-use Rattle.bodies.specs.Bodies.{blockOf, bodyTests, blockTests, blockLeaves}
+use Rattle.contents.proofs.Sizes.{size-before}
+use Rattle.bodies.specs.Bodies as Bodies
+use Rattle.bodies.specs.Bodies.{blockOf}
 use Rattle.bodies.specs.Ranges.{isRange}
-use Rattle.files.specs.Files.{bodyOf, blockIn, badRuns, hasTrueRange, badRange, fileTests}
-use Rattle.files.proofs.Files.{goodIn, entry-read, range-read, edition-read, count-read, body-tested, block-tested, block-left}
+use Rattle.bodies.proofs.Bodies.{other-runs}
+use Rattle.files.specs.Files as Files
+use Rattle.files.specs.Files.{bodyOf, blockIn, badRuns, badRange, fileTests}
+use Rattle.files.proofs.Files.{goodIn, whole, entry-read, range-read, edition-read, count-read, body-tested}
 use Rattle.files.proofs.Ranges.{contents-right, runs-good, file-runs, ranges-true}
-use Rattle.compare.specs.Steps.{inBlock, bodyAnswer, rangeAnswer, isOpen, stepOf, answerAfter}
-use Rattle.compare.proofs.Steps.{runs-placed, step-settled, step-bad, step-kept, step-range}
-
--- ---- the contents give no 15
-
--- A list of tests of which none refuses by 15 gives no 15.
-none-fifteen : (x : FileTest) (xs : List FileTest) → (numberOf (refusal x) ≡ 15 → ⊥) → (numberOf (fileAnswer xs) ≡ 15 → ⊥)
-    → numberOf (fileAnswer (x ∷ xs)) ≡ 15 → ⊥
-none-fifteen x xs here rest e = go (passes x) refl
-  where
-    go : (b : Bool) → passes x ≡ b → ⊥
-    go true p = rest (sym (ap numberOf (passed x xs p)) ∙ e)
-    go false p = here (sym (ap numberOf (stopped x xs p)) ∙ e)
-
-contents-not-fifteen : (l : List ℕ) (size : ℕ) → numberOf (fileAnswer (contentsTests l size)) ≡ 15 → ⊥
-contents-not-fifteen l size =
-    none-fifteen _ _ (λ e. omega arith)
-    (none-fifteen _ _ (λ e. omega arith)
-    (none-fifteen _ _ (λ e. omega arith)
-    (none-fifteen _ _ (λ e. omega arith)
-    (none-fifteen _ _ (λ e. omega arith)
-    (none-fifteen _ _ (λ e. omega arith)
-    (λ e. omega (arith, ap numberOf none-left)))))))
+use Rattle.compare.specs.InnerPlaced.{inBlock}
+use Rattle.compare.specs.Steps.{hasTrueRange, bodyTests, blockTests, blockLeaves, rangeTests, stepOf, answerAfter}
+use Rattle.compare.proofs.Steps.{body-placed, step-settled, step-body, step-range, range-answer}
 
 -- ---- a front that tells of the contents what the file does
 
@@ -54,6 +42,7 @@ pub record Front (l front : List ℕ) : Type 0 where
   pub count-is : fileAnswer (contentsTests l (length l)) ≡ Done → countOr front ≡ count l
   pub entry-is : fileAnswer (contentsTests l (length l)) ≡ Done → (i : ℕ) → i < count l → entryOr front i ≡ entryOf l i
   pub range-is : fileAnswer (contentsTests l (length l)) ≡ Done → (i : ℕ) → i < count l → rangeOr front i ≡ rangeOf l i
+  pub right-is : fileAnswer (contentsTests l (length l)) ≡ Done → (i : ℕ) → i < count l → hasRightEntry front i ≡ true
 
 -- The whole file is one.
 pub whole-front : (l : List ℕ) → Front l l
@@ -63,6 +52,9 @@ whole-front l = record {
   count-is = λ done. count-read l done;
   entry-is = λ done. entry-read l done;
   range-is = λ done. range-read l done;
+  right-is = λ done i h.
+      let w = whole l done in
+      right-there l i (omega (arith, w .room, size-before (edition l) i (count l) h, ap (contentsSize (edition l)) (add-one i))) ∙ w .right i h;
 }
 
 module _ (l front : List ℕ) (held : Front l front) where
@@ -72,33 +64,43 @@ module _ (l front : List ℕ) (held : Front l front) where
   -- ---- contents that are refused
 
   module _ (refused : fileAnswer (contentsTests l (length l)) ≡ Done → ⊥) where
-    settled : isOpen (fileAnswer (contentsTests l (length l))) ≡ false
-    settled =
-        let a = fileAnswer (contentsTests l (length l)) in
-        ap₂ either (ne-eqb (numberOf a) 0 (λ z. refused (number-done a z))) (ne-eqb (numberOf a) 15 (contents-not-fifteen l (length l)))
-
     stays : (n : ℕ) → after n ≡ fileAnswer (contentsTests l (length l))
     unfolding answerAfter
     stays zero = held .answer
     stays (suc n) =
-        step-settled (after n) front n (bodyOf l n) (ap isOpen (stays n) ∙ settled) ∙ stays n
+        step-settled front n (bodyOf l n) (after n) (λ z. refused (sym (stays n) ∙ number-done (after n) z)) ∙ stays n
 
   -- ---- contents that are right
 
   module _ (done : fileAnswer (contentsTests l (length l)) ≡ Done) where
+    -- No file has both: a range that is not the true one is of edition 2,
+    range-second : (p : ℕ) → Files.hasTrueRange l p ≡ false → edition l ≡ 2
+    unfolding Files.hasTrueRange
+    range-second p e =
+        elim (ℕ-discrete (edition l) 2) [
+          | yes second ↦ second
+          | no other ↦ absurd (false-true (sym e ∙ ap (λ t. pick t (isRange (rangeOf l p) (blockIn l p)) true) (ne-eqb (edition l) 2 other)))
+        ]
+
+    -- in which no block has run indices.
+    second-good : edition l ≡ 2 → (i : ℕ) → i < count l → goodIn l i ≡ true
+    second-good second i h =
+        let taken = sym (ap (λ t. pick t (ltb (entryOf l i .kind) 3) true) (eq-eqb (edition l) 2 second)) ∙ whole-taken (whole l done) i h in
+        let below : entryOf l i .kind < 3 = ltb-true (entryOf l i .kind) 3 taken in
+        other-runs (entryOf l i) (bodyOf l i) (λ e. omega arith)
+
     -- What the answer after n bodies is, by what these bodies are.
     data Far (n : ℕ) : FileAnswer → Type 0 where
       some-runs : (p : ℕ) → p < n → goodIn l p ≡ false → ((i : ℕ) → i < p → goodIn l i ≡ true) → Far n (Runs p)
-      some-range : (p : ℕ) → ((i : ℕ) → i < n → goodIn l i ≡ true) → p < n → hasTrueRange l p ≡ false → ((i : ℕ) → i < p → hasTrueRange l i ≡ true)
-          → Far n (Range p)
-      all-right : ((i : ℕ) → i < n → goodIn l i ≡ true) → ((i : ℕ) → i < n → hasTrueRange l i ≡ true) → Far n Done
+      some-range : (p : ℕ) → p < n → Files.hasTrueRange l p ≡ false → ((i : ℕ) → i < p → Files.hasTrueRange l i ≡ true) → Far n (Range p)
+      all-right : ((i : ℕ) → i < n → goodIn l i ≡ true) → ((i : ℕ) → i < n → Files.hasTrueRange l i ≡ true) → Far n Done
 
     module _ (n : ℕ) (h : n < count l) where
-      body-answer : (t : Bool) → goodIn l n ≡ t → bodyAnswer front n (bodyOf l n) ≡ pick t Done (Runs n)
-      unfolding bodyAnswer
-      body-answer t e =
-          ap (inBlock n)
-          (ap (λ e. fileAnswer (bodyTests e (bodyOf l n))) (held .entry-is done n h)
+      body-answer : {t : Bool} → goodIn l n ≡ t → fileAnswer (bodyTests front n (bodyOf l n)) ≡ pick t Done (Runs n)
+      body-answer {t} e =
+          sym (body-placed front n (bodyOf l n) (held .right-is done n h))
+          ∙ ap (inBlock n)
+          (ap (λ e. fileAnswer (Bodies.bodyTests e (bodyOf l n))) (held .entry-is done n h)
           ∙ body-tested l done n h
           ∙ ap (λ t. pick t Done (Runs 0)) e)
           ∙ go t
@@ -107,12 +109,16 @@ module _ (l front : List ℕ) (held : Front l front) where
           go true = refl
           go false = refl
 
-      range-answer : (t : Bool) → hasTrueRange l n ≡ t → rangeAnswer front n (blockOf (entryOr front n) (bodyOf l n)) ≡ pick t Done (Range n)
-      unfolding rangeAnswer hasTrueRange blockIn
-      range-answer t e =
-          ap (λ e. pick (pick (eqb e 2) (isRange (rangeOr front n) (blockOf (entryOr front n) (bodyOf l n))) true) Done (Range n)) (held .edition-is done)
-          ∙ ap₂ (λ r e. pick (pick (eqb (edition l) 2) (isRange r (blockOf e (bodyOf l n))) true) Done (Range n)) (held .range-is done n h) (held .entry-is done n h)
-          ∙ ap (λ t. pick t Done (Range n)) e
+      block-is : blockOf (entryOr front n) (bodyOf l n) ≡ blockIn l n
+      unfolding blockIn
+      block-is = ap (λ e. blockOf e (bodyOf l n)) (held .entry-is done n h)
+
+      range-is : hasTrueRange front n (blockIn l n) ≡ Files.hasTrueRange l n
+      unfolding hasTrueRange Files.hasTrueRange
+      range-is = ap₂ (λ e r. pick (eqb e 2) (isRange r (blockIn l n)) true) (held .edition-is done) (held .range-is done n h)
+
+      block-range : {t : Bool} → Files.hasTrueRange l n ≡ t → fileAnswer (rangeTests front n (blockIn l n)) ≡ pick t Done (Range n)
+      block-range e = range-answer front n (blockIn l n) (held .right-is done n h) (range-is ∙ e)
 
       -- all below n, and n itself
       one-more : {test : ℕ → Bool} → ((i : ℕ) → i < n → test i ≡ true) → test n ≡ true → (i : ℕ) → i < suc n → test i ≡ true
@@ -122,31 +128,26 @@ module _ (l front : List ℕ) (held : Front l front) where
             | no e ↦ before i (omega arith)
           ]
 
-      runs-found : (a : FileAnswer) → isOpen a ≡ true → goodIn l n ≡ false → stepOf a front n (bodyOf l n) ≡ Runs n
-      runs-found a o g =
-          let bad = body-answer false g in
-          step-bad a front n (bodyOf l n) o (λ z. let w : _≡_ {A = ℕ} 13 0 = sym (ap numberOf bad) ∙ z in omega arith) ∙ bad
-
       far-next : {a : FileAnswer} → Far n a → Far (suc n) (stepOf a front n (bodyOf l n))
       far-next (some-runs p b g before) =
-          subst (Far (suc n)) (sym (step-settled (Runs p) front n (bodyOf l n) refl)) (some-runs p (omega arith) g before)
-      far-next (some-range p good b t before) = go (goodIn l n) refl
+          subst (Far (suc n)) (sym (step-settled front n (bodyOf l n) (Runs p) (λ z. let w : _≡_ {A = ℕ} 13 0 = z in omega arith))) (some-runs p (omega arith) g before)
+      far-next (some-range p b t before) =
+          subst (Far (suc n)) (sym (step-settled front n (bodyOf l n) (Range p) (λ z. let w : _≡_ {A = ℕ} 15 0 = z in omega arith))) (some-range p (omega arith) t before)
+      far-next (all-right good ranges) = go (goodIn l n) (Files.hasTrueRange l n) refl refl
         where
-          go : (g : Bool) → goodIn l n ≡ g → Far (suc n) (stepOf (Range p) front n (bodyOf l n))
-          go true g =
-              subst (Far (suc n))
-              (sym (step-kept (Range p) front n (bodyOf l n) refl (ap numberOf (body-answer true g)) (λ z. let w : _≡_ {A = ℕ} 15 0 = z in omega arith)))
-              (some-range p (one-more good g) (omega arith) t before)
-          go false g = subst (Far (suc n)) (sym (runs-found (Range p) refl g)) (some-runs n (omega arith) g good)
-      far-next (all-right good true-so-far) = go (goodIn l n) (hasTrueRange l n) refl refl
-        where
-          ranged : goodIn l n ≡ true → (t : Bool) → hasTrueRange l n ≡ t → stepOf Done front n (bodyOf l n) ≡ pick t Done (Range n)
-          ranged g t e = step-range Done front n (bodyOf l n) refl (ap numberOf (body-answer true g)) refl ∙ range-answer t e
+          bad : goodIn l n ≡ false → stepOf Done front n (bodyOf l n) ≡ Runs n
+          bad g =
+              let answer = body-answer g in
+              step-body front n (bodyOf l n) Done refl (λ d. let w : _≡_ {A = ℕ} 13 0 = ap numberOf (sym answer ∙ d) in omega arith) ∙ answer
 
-          go : (g t : Bool) → goodIn l n ≡ g → hasTrueRange l n ≡ t → Far (suc n) (stepOf Done front n (bodyOf l n))
-          go false t g e = subst (Far (suc n)) (sym (runs-found Done refl g)) (some-runs n (omega arith) g good)
-          go true true g e = subst (Far (suc n)) (sym (ranged g true e)) (all-right (one-more good g) (one-more true-so-far e))
-          go true false g e = subst (Far (suc n)) (sym (ranged g false e)) (some-range n (one-more good g) (omega arith) e true-so-far)
+          ranged : goodIn l n ≡ true → {t : Bool} → Files.hasTrueRange l n ≡ t → stepOf Done front n (bodyOf l n) ≡ pick t Done (Range n)
+          ranged g e =
+              step-range front n (bodyOf l n) Done refl (body-answer g) ∙ ap (λ b. fileAnswer (rangeTests front n b)) block-is ∙ block-range e
+
+          go : (g t : Bool) → goodIn l n ≡ g → Files.hasTrueRange l n ≡ t → Far (suc n) (stepOf Done front n (bodyOf l n))
+          go false t g e = subst (Far (suc n)) (sym (bad g)) (some-runs n (omega arith) g good)
+          go true true g e = subst (Far (suc n)) (sym (ranged g e)) (all-right (one-more good g) (one-more ranges e))
+          go true false g e = subst (Far (suc n)) (sym (ranged g e)) (some-range n (omega arith) e ranges)
 
     far : (n : ℕ) → n ≤ count l → Far n (after n)
     unfolding answerAfter
@@ -166,14 +167,14 @@ module _ (l front : List ℕ) (held : Front l front) where
     far-all (some-runs p b g before) =
         let found : p ≡ badRuns l = first-only (count l) p (goodIn l) (omega arith) before (λ _. g) in
         sym (bodies-tests ∙ stopped _ _ (ne-eqb (badRuns l) (count l) (λ e. omega arith)) ∙ ap Runs (sym found))
-    far-all (some-range p good b t before) =
-        let found : p ≡ badRange l = first-only (count l) p (hasTrueRange l) (omega arith) before (λ _. t) in
+    far-all (some-range p b t before) =
+        let found : p ≡ badRange l = first-only (count l) p (Files.hasTrueRange l) (omega arith) before (λ _. t) in
         sym (bodies-tests
-        ∙ passed _ _ (eq-eqb (badRuns l) (count l) (all-good good))
+        ∙ passed _ _ (eq-eqb (badRuns l) (count l) (all-good (second-good (range-second p t))))
         ∙ stopped _ _ (ne-eqb (badRange l) (count l) (λ e. omega arith))
         ∙ ap Range (sym found))
     far-all (all-right good ranges) =
-        let none : count l ≡ badRange l = first-only (count l) (count l) (hasTrueRange l) (omega arith) ranges (λ b. absurd (omega arith)) in
+        let none : count l ≡ badRange l = first-only (count l) (count l) (Files.hasTrueRange l) (omega arith) ranges (λ b. absurd (omega arith)) in
         sym (bodies-tests
         ∙ passed _ _ (eq-eqb (badRuns l) (count l) (all-good good))
         ∙ passed _ _ (eq-eqb (badRange l) (count l) (sym none))
@@ -193,22 +194,14 @@ module _ (l front : List ℕ) (held : Front l front) where
     right : fileAnswer (contentsTests l (length l)) ≡ Done
     right = contents-right l (file-runs l accepted)
 
-    good : goodIn l i ≡ true
-    good = runs-good l (file-runs l accepted) i h
-
-    pub again-answer : (output : List ℕ) → length output ≡ 1024 → inBlock i (fileAnswer (blockTests (entryOr front i) (bodyOf l i) output)) ≡ Done
+    pub again-answer : (output : List ℕ) → length output ≡ 1024 → fileAnswer (blockTests front i (bodyOf l i) output) ≡ Done
     again-answer output e =
-        ap (λ e. inBlock i (fileAnswer (blockTests e (bodyOf l i) output))) (held .entry-is right i h)
-        ∙ ap (inBlock i) (block-tested l right i h output e ∙ ap (λ t. pick t Done (Runs 0)) good)
+        passed _ _ (eq-eqb (length output) 1024 e) ∙ body-answer right i h (runs-good l (file-runs l accepted) i h)
 
-    pub again-block : (output : List ℕ) → length output ≡ 1024 → blockLeaves (entryOr front i) (bodyOf l i) output ≡ blockIn l i
+    pub again-block : (output : List ℕ) → length output ≡ 1024 → blockLeaves front i (bodyOf l i) output ≡ blockIn l i
+    unfolding blockLeaves
     again-block output e =
-        ap (λ e. blockLeaves e (bodyOf l i) output) (held .entry-is right i h)
-        ∙ block-left l right i h output e
-        ∙ ap (λ t. pick t (blockIn l i) output) good
+        ap (λ a. left a (blockOf (entryOr front i) (bodyOf l i)) output) (again-answer output e) ∙ block-is right i h
 
-    pub again-range : rangeAnswer front i (blockIn l i) ≡ Done
-    unfolding blockIn
-    again-range =
-        ap (λ e. rangeAnswer front i (blockOf e (bodyOf l i))) (sym (held .entry-is right i h))
-        ∙ range-answer right i h true (ranges-true l accepted i h)
+    pub again-range : fileAnswer (rangeTests front i (blockIn l i)) ≡ Done
+    again-range = block-range right i h (ranges-true l accepted i h)

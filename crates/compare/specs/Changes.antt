@@ -6,10 +6,16 @@ use mathlib.Core.List.{List, [], _∷_, _++_, map}
 use Prim.Native.Nat.{ℕ, zero, suc, _+_, _*_, min}
 use lib.Dec.{eqb}
 use lib.ListN.{length, getD}
-use Rattle.places.specs.Pick.{pick, both}
+use Rattle.places.specs.Pick.{pick}
+use Rattle.places.specs.Tab.{over}
+use Rattle.contents.specs.declared.FileAnswer.{FileAnswer}
+use Rattle.contents.specs.declared.FileAnswer.the-variants.{Done}
+use Rattle.contents.specs.Answers.{FileTest, a-block, fileAnswer, isDone, left as leaves}
 use Rattle.contents.specs.Contents.{count}
 use Rattle.files.specs.Files.{blockIn, rowAt}
 use Rattle.compare.specs.declared.Change.{Change}
+use Rattle.compare.specs.declared.Compared.{Compared}
+use Rattle.compare.specs.declared.Compared.the-variants.{Places, Refused}
 
 -- These are the numbers from s on, below s + n, whose test fails, rising.
 unfoldable pub failingFrom : (s n : ℕ) (test : ℕ → Bool) → List ℕ
@@ -24,10 +30,29 @@ isSame left right i = eqb (getD left i 0) (getD right i 0)
 unfoldable pub differing : (left right : List ℕ) → List ℕ
 differing left right = failingFrom 0 1024 (isSame left right)
 
--- The blocks and the room for the places have to be 1,024 long; where one is not, nothing is compared, and nothing listed.
-unfoldable pub listedOf : (left right places : List ℕ) → List ℕ
-listedOf left right places =
-    pick (both (eqb (length left) 1024) (both (eqb (length right) 1024) (eqb (length places) 1024))) (differing left right) []
+-- Both blocks and the room for the places have to be 1,024 long: 2 where one is not.
+abbrev pub differingTests : (left right places : List ℕ) → List FileTest
+differingTests left right places = a-block left ∷ a-block right ∷ a-block places ∷ []
+
+-- The comparison of two blocks gives how many places differ, or the refusal,
+unfoldable pub comparedOf : (left right places : List ℕ) → Compared
+comparedOf left right places =
+    pick (isDone (fileAnswer (differingTests left right places))) (Places (length (differing left right)))
+    (Refused (fileAnswer (differingTests left right places)))
+
+-- and leaves these places at the front of the room for them; what stands behind them stays.
+unfoldable pub differingLeaves : (left right places : List ℕ) → List ℕ
+differingLeaves left right places = leaves (fileAnswer (differingTests left right places)) (over 0 (differing left right) places) places
+
+-- Places stand for an answer that is done, and a refusal for itself.
+abbrev pub answerOf : Compared → FileAnswer
+answerOf (Places n) = Done
+answerOf (Refused a) = a
+
+-- After a refusal nothing is listed, and 0 stands for how many.
+abbrev pub countOf : Compared → ℕ
+countOf (Places n) = n
+countOf (Refused a) = 0
 
 -- Place p of block i is row 1,024 · i + p, and a change says both numbers there.
 abbrev pub changeAt : (i : ℕ) (left right : List ℕ) (p : ℕ) → Change

@@ -1,4 +1,5 @@
 pub mod Changes
+pub mod InnerPlaced
 pub mod InnerSame
 pub mod Plain
 pub mod Steps

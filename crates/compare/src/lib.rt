@@ -4,25 +4,56 @@ use contents::FileAnswer;
 use contents::contents_length;
 use contents::edition;
 use contents::entry_or;
+use contents::has_right_entry;
 use contents::range_or;
 use little::pair;
 ghost use mathlib.Core.Path.{_≡_};
+ghost use mathlib.Core.List.{[], _∷_};
 ghost use Prim.Native.Nat.{_*_, _≤_, min};
 ghost use lib.ListN.{length, getD};
 ghost use Rattle.places.specs.Tab.{over};
 ghost use Rattle.contents.specs.declared.FileAnswer.the-variants.{Done};
 ghost use Rattle.contents.specs.Answers.{fileAnswer};
 ghost use Rattle.contents.specs.Contents.{countOr, entryOr};
-ghost use Rattle.bodies.specs.Bodies.{blockOf, bodyTests, blockTests, blockLeaves};
-ghost use Rattle.compare.specs.Changes.{differing as differingIn, listedOf, changeAt};
+ghost use Rattle.bodies.specs.Bodies.{blockOf};
+ghost use Rattle.compare.specs.Changes.{differing as differingIn, differingTests, comparedOf, differingLeaves, answerOf, countOf, changeAt};
+ghost use Rattle.compare.specs.InnerPlaced.{inBlock};
 ghost use Rattle.compare.specs.InnerSame.{sameOf};
-ghost use Rattle.compare.specs.Steps.{inBlock, bodyAnswer, rangeAnswer, sameRange, isOpen, stepOf, frontSize};
+ghost use Rattle.compare.specs.Steps.{entryTest, bodyTests, blockTests, blockLeaves, rangeTests, sameRange, stepOf, frontSize};
 
 // A row whose numbers differ.
 pub struct Change {
     pub row: u64,
     pub left: u64,
     pub right: u64,
+}
+
+// How many places of two blocks differ, or the refusal.
+pub enum Compared {
+    Places(usize),
+    Refused(FileAnswer),
+}
+
+impl Compared {
+    // The answer in the terms of the other calls.
+    pub fn answer(self) -> FileAnswer
+        ensures { λ r. ⌜ r ≡ answerOf self ⌝ }
+    {
+        match self {
+            Compared::Places(_) => FileAnswer::Done,
+            Compared::Refused(a) => a,
+        }
+    }
+
+    // How many places differ; 0 after a refusal.
+    pub fn count(self) -> usize
+        ensures { λ r. ⌜ r ≡ countOf self ⌝ }
+    {
+        match self {
+            Compared::Places(n) => n,
+            Compared::Refused(_) => 0,
+        }
+    }
 }
 
 // How many bytes of a file are its front, by its first four: the contents, and no more than the four where these say
@@ -38,43 +69,45 @@ pub fn front_length(head: &[u8]) -> usize
 }
 
 // The answer to a file with one body more. It begins with that to the contents, takes the bodies in their order, and is after
-// the last of them the answer to the whole file.
+// the last of them the answer to the whole file. A refusal stays.
 pub fn step(answer: FileAnswer, front: &[u8], i: usize, body: &[u8]) -> FileAnswer
     ensures { λ r. ⌜ r ≡ stepOf answer (now (front .entry)) i (now (body .entry)) ⌝ }
 {
-    if !is_open(answer) {
+    if answer.number() != 0 {
         return answer;
     }
     let found = check_body(front, i, body);
     if found.number() != 0 {
         return found;
     }
-    if answer.number() != 0 {
-        return answer;
-    }
     check_range(front, i, body)
 }
 
-// Whether a later body is looked at: nothing is refused, or no more than a range. Since Item 11 no file has both a run index out of range
-// and a range that is not the true one; the order of the two is kept for any front and any answer.
-pub fn is_open(answer: FileAnswer) -> bool
-    ensures { λ r. ⌜ r ≡ isOpen answer ⌝ }
+// Whether entry i is there and right in its edition.
+fn check_entry(front: &[u8], i: usize) -> FileAnswer
+    ensures { λ r. ⌜ r ≡ fileAnswer (entryTest (now (front .entry)) i ∷ []) ⌝ }
 {
-    let number = answer.number();
-    (number == 0) | (number == 15)
+    if has_right_entry(front, i) {
+        return FileAnswer::Done;
+    }
+    FileAnswer::BadEntry(i)
 }
 
-// Body i against its entry.
+// Body i against its entry, which has to be right in its edition.
 fn check_body(front: &[u8], i: usize, body: &[u8]) -> FileAnswer
-    ensures { λ r. ⌜ r ≡ bodyAnswer (now (front .entry)) i (now (body .entry)) ⌝ }
+    ensures { λ r. ⌜ r ≡ fileAnswer (bodyTests (now (front .entry)) i (now (body .entry))) ⌝ }
 {
+    let entry = check_entry(front, i);
+    if entry.number() != 0 {
+        return entry;
+    }
     in_block(i, bodies::check(entry_or(front, i), body))
 }
 
 // The range of block i, whose body is as its entry says.
 fn check_range(front: &[u8], i: usize, body: &[u8]) -> FileAnswer
-    requires { ⌜ fileAnswer (bodyTests (entryOr (now front) i) (now body)) ≡ Done ⌝ }
-    ensures { λ r. ⌜ r ≡ rangeAnswer (now (front .entry)) i (blockOf (entryOr (now (front .entry)) i) (now (body .entry))) ⌝ }
+    requires { ⌜ fileAnswer (bodyTests (now front) i (now body)) ≡ Done ⌝ }
+    ensures { λ r. ⌜ r ≡ fileAnswer (rangeTests (now (front .entry)) i (blockOf (entryOr (now (front .entry)) i) (now (body .entry)))) ⌝ }
 {
     if edition(front) != 2 {
         return FileAnswer::Done;
@@ -94,18 +127,29 @@ fn in_block(i: usize, answer: FileAnswer) -> FileAnswer
     answer
 }
 
-// Lays block i down from its body.
+// Lays block i down from its body. The entry has to be right in its edition.
 pub fn block_of(front: &[u8], i: usize, body: &[u8], block: &mut [u64]) -> FileAnswer
-    ensures { λ r. ⌜ r ≡ inBlock i (fileAnswer (blockTests (entryOr (now (front .entry)) i) (now (body .entry)) (now (block .entry)))) ⌝ }
-    ensures { λ _. ⌜ now (block .exit) ≡ blockLeaves (entryOr (now (front .entry)) i) (now (body .entry)) (now (block .entry)) ⌝ }
+    ensures { λ r. ⌜ r ≡ fileAnswer (blockTests (now (front .entry)) i (now (body .entry)) (now (block .entry))) ⌝ }
+    ensures { λ _. ⌜ now (block .exit) ≡ blockLeaves (now (front .entry)) i (now (body .entry)) (now (block .entry)) ⌝ }
 {
+    if block.len() != 1024 {
+        return FileAnswer::Block;
+    }
+    let entry = check_entry(front, i);
+    if entry.number() != 0 {
+        return entry;
+    }
     in_block(i, bodies::block_of(entry_or(front, i), body, block))
 }
 
-// The range of block i, which was laid down, against what its entry says.
+// The range of block i, which was laid down, against what its entry says. The entry has to be right in its edition.
 pub fn check_block(front: &[u8], i: usize, block: &[u64]) -> FileAnswer
-    ensures { λ r. ⌜ r ≡ rangeAnswer (now (front .entry)) i (now (block .entry)) ⌝ }
+    ensures { λ r. ⌜ r ≡ fileAnswer (rangeTests (now (front .entry)) i (now (block .entry))) ⌝ }
 {
+    let entry = check_entry(front, i);
+    if entry.number() != 0 {
+        return entry;
+    }
     if edition(front) != 2 {
         return FileAnswer::Done;
     }
@@ -144,25 +188,36 @@ pub fn row_count(front: &[u8]) -> u64
     pair(front, 2) as u64 * 1024
 }
 
-// Lists the places at which two blocks differ, rising, from the front of `places` on, and says how many they are. Where a block
-// or the room for places is not 1,024 long, nothing is compared. Equal blocks are not gone through place by place.
-pub fn differing(left: &[u64], right: &[u64], places: &mut [u16]) -> usize
-    ensures { λ r. ⌜ r ≡ length (listedOf (now (left .entry)) (now (right .entry)) (now (places .entry))) ⌝ }
-    ensures { λ _. ⌜ now (places .exit) ≡ over 0 (listedOf (now (left .entry)) (now (right .entry)) (now (places .entry))) (now (places .entry)) ⌝ }
+// Lists the places at which two blocks differ, rising, from the front of `places` on, and says how many they are. Both blocks and
+// the room for places have to be 1,024 long. Equal blocks are not gone through place by place.
+pub fn differing(left: &[u64], right: &[u64], places: &mut [u16]) -> Compared
+    ensures { λ r. ⌜ r ≡ comparedOf (now (left .entry)) (now (right .entry)) (now (places .entry)) ⌝ }
+    ensures { λ _. ⌜ now (places .exit) ≡ differingLeaves (now (left .entry)) (now (right .entry)) (now (places .entry)) ⌝ }
 {
-    if left.len() != 1024 {
-        return 0;
-    }
-    if right.len() != 1024 {
-        return 0;
-    }
-    if places.len() != 1024 {
-        return 0;
+    let lengths = check_lengths(left, right, places);
+    if lengths.number() != 0 {
+        return Compared::Refused(lengths);
     }
     if are_same(left, right) {
-        return 0;
+        return Compared::Places(0);
     }
-    list_places(left, right, places)
+    Compared::Places(list_places(left, right, places))
+}
+
+// Whether both blocks and the room for places are 1,024 long.
+fn check_lengths(left: &[u64], right: &[u64], places: &[u16]) -> FileAnswer
+    ensures { λ r. ⌜ r ≡ fileAnswer (differingTests (now (left .entry)) (now (right .entry)) (now (places .entry))) ⌝ }
+{
+    if left.len() != 1024 {
+        return FileAnswer::Block;
+    }
+    if right.len() != 1024 {
+        return FileAnswer::Block;
+    }
+    if places.len() != 1024 {
+        return FileAnswer::Block;
+    }
+    FileAnswer::Done
 }
 
 // Whether two blocks are the same. What is apart at each place is joined by `|`, so that there is no branch for a place.

@@ -2,7 +2,6 @@
 use crate::read::length_of;
 use crate::read::next_start;
 use crate::read::read_body;
-use compare::is_open;
 use compare::step;
 use contents::FileAnswer;
 use contents::contents_length;
@@ -16,7 +15,7 @@ pub fn check_file(fd: i32, front: &[u8], body: &mut [u8]) -> FileAnswer {
     let mut at = contents_length(front);
     let mut i = 0;
     while i < n {
-        if !is_open(answer) {
+        if answer.number() != 0 {
             return answer;
         }
         let e = entry_or(front, i);

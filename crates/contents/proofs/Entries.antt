@@ -12,8 +12,9 @@ use lib.Dec.{leb, ltb}
 use lib.ListN.{length}
 use borrow.Author.Tests.{le-leb, lt-leb, eq-eqb, ne-eqb, leb-true, leb-false}
 use Rattle.places.specs.Pick.{pick, both}
-use Rattle.contents.specs.Contents.{edition, contentsSize, entryOf, noEntry, entryOr, rangeAt, anyRange, rangeOf, rangeOr, isLaidOut, isTakenIn, isOrdered, isRight, editionOr, bodiesSize}
+use Rattle.contents.specs.Contents.{edition, contentsSize, entryOf, noEntry, entryOr, rangeAt, anyRange, rangeOf, rangeOr, isLaidOut, isTakenIn, isOrdered, isRight, hasRightEntry, editionOr, bodiesSize}
 use Rattle.little.proofs.Little.{little-within}
+use Rattle.places.proofs.Tests.{both-true}
 use Rattle.contents.proofs.Sizes.{size-least}
 
 module _ (l : List ℕ) (i : ℕ) where
@@ -32,6 +33,22 @@ module _ (l : List ℕ) (i : ℕ) where
   pub range-missing : length l < contentsSize (edition l) (suc i) → rangeOr l i ≡ anyRange
   unfolding rangeOr
   range-missing h = simp (lt-leb (contentsSize (edition l) (suc i)) (length l) h)
+
+  pub right-there : contentsSize (edition l) (suc i) ≤ length l → hasRightEntry l i ≡ isRight l i
+  unfolding hasRightEntry
+  right-there h = simp (le-leb (contentsSize (edition l) (suc i)) (length l) h)
+
+  pub right-missing : length l < contentsSize (edition l) (suc i) → hasRightEntry l i ≡ false
+  unfolding hasRightEntry
+  right-missing h = simp (lt-leb (contentsSize (edition l) (suc i)) (length l) h)
+
+  -- An entry that is right is as laid out.
+  pub right-laid : hasRightEntry l i ≡ true → isLaidOut (entryOr l i) ≡ true
+  unfolding hasRightEntry isRight
+  right-laid e =
+      let t = both-true (leb (contentsSize (edition l) (suc i)) (length l)) _ e in
+      ap isLaidOut (entry-there (leb-true (contentsSize (edition l) (suc i)) (length l) (t .0)))
+      ∙ both-true (isLaidOut (entryOf l i)) _ (t .1) .0
 
   -- In edition 2 the range stands behind the first sixteen bytes, and in edition 1 there is none.
   pub range-second : edition l ≡ 2 → rangeOf l i ≡ rangeAt l (contentsSize (edition l) i + 16)

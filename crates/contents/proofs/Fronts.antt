@@ -17,10 +17,10 @@ use borrow.Author.Tests.{eqb-true}
 use Rattle.places.specs.Pick.{pick, both}
 use Rattle.little.specs.Little.{little}
 use Rattle.contents.specs.Answers.{laid-out, enough, an-end, fileAnswer}
-use Rattle.contents.specs.Contents.{edition, count, contentsSize, entryAt, entryOf, entryOr, rangeAt, anyRange, rangeOf, rangeOr, isLaidOut, isTakenIn, isOrdered, isRight, badEntry, bodiesSize, bodyStart, entriesTests, contentsTests}
+use Rattle.contents.specs.Contents.{edition, count, contentsSize, entryAt, entryOf, entryOr, rangeAt, anyRange, rangeOf, rangeOr, isLaidOut, isTakenIn, isOrdered, isRight, hasRightEntry, badEntry, bodiesSize, bodyStart, entriesTests, contentsTests}
 use Rattle.contents.specs.First.{firstBad}
 use Rattle.contents.proofs.Checks.{Known, known-or-not, short-head, other-edition, many-blocks, short-entries, entries-there}
-use Rattle.contents.proofs.Entries.{entry-there, range-there}
+use Rattle.contents.proofs.Entries.{entry-there, range-there, right-there}
 use Rattle.contents.proofs.First.{first-ext}
 use Rattle.contents.proofs.Sizes.{size-entry, size-range, size-before}
 
@@ -137,3 +137,7 @@ module _ (l : List ℕ) (k : ℕ) (four : 4 ≤ k) (all : count l ≤ 256 → co
   -- with its range.
   pub range-or-front : count l ≤ 256 → contentsSize (edition l) (count l) ≤ length l → (i : ℕ) → i < count l → rangeOr (take k l) i ≡ rangeOf l i
   range-or-front few room i b = range-there (take k l) i (there-front few room i b) ∙ range-front few i b
+
+  -- An entry is right there exactly when it is in the file.
+  pub right-or-front : (few : count l ≤ 256) → contentsSize (edition l) (count l) ≤ length l → (i : ℕ) → i < count l → hasRightEntry (take k l) i ≡ isRight l i
+  right-or-front few room i b = right-there (take k l) i (there-front few room i b) ∙ right-front few i b

@@ -42,7 +42,7 @@ placeOf (Foreign p) = p
 
 -- These are the things that a call on a file tests.
 pub data FileTest : Type 0 where
-  -- A block that is lent is 1,024 long.
+  -- A block that is lent, or the room for the places of one, is 1,024 long.
   a-block : (block : List ℕ) → FileTest
   -- There are as many bytes as are needed.
   enough : (needed there : ℕ) → FileTest

@@ -135,6 +135,10 @@ entryOr l i = pick (leb (contentsSize (edition l) (suc i)) (length l)) (entryOf 
 unfoldable pub rangeOr : (l : List ℕ) (i : ℕ) → Range
 rangeOr l i = pick (leb (contentsSize (edition l) (suc i)) (length l)) (rangeOf l i) anyRange
 
+-- This test says that entry i is right, in a front that has all its bytes. An entry that is not all there is not right.
+unfoldable pub hasRightEntry : (l : List ℕ) (i : ℕ) → Bool
+hasRightEntry l i = both (leb (contentsSize (edition l) (suc i)) (length l)) (isRight l i)
+
 -- This is the edition where its bytes are all there, and else 0.
 abbrev pub editionOr : List ℕ → ℕ
 editionOr l = littleOr l 0 2

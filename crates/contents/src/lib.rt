@@ -15,14 +15,14 @@ ghost use Prim.Native.Nat.{_+_, _*_, _≤_, _<_};
 ghost use lib.Dec.{leb};
 ghost use lib.ListN.{length};
 ghost use Rattle.contents.specs.Answers.{numberOf, placeOf, fileAnswer};
-ghost use Rattle.contents.specs.Contents.{edition as editionIn, count as countIn, contentsSize, entrySize, entryAt, entryOf, entryOr, rangeAt, rangeOr, anyRange, rangeOf as rangeIn, noEntry, editionOr, countOr, isPacked, isRuns, isOfKind, isLaidOut, isOrdered, isRight, bodiesSize, entriesTests, contentsTests};
+ghost use Rattle.contents.specs.Contents.{edition as editionIn, count as countIn, contentsSize, entrySize, entryAt, entryOf, entryOr, rangeAt, rangeOr, anyRange, rangeOf as rangeIn, noEntry, editionOr, countOr, isPacked, isRuns, isOfKind, isLaidOut, isOrdered, isRight, hasRightEntry, bodiesSize, entriesTests, contentsTests};
 ghost use Rattle.contents.specs.Bytes.{headLeaves, firstLeaves, entryLeaves};
 ghost use Rattle.contents.specs.First.{firstBad};
 
 // What a call on a file answers: that it is done, or why it is refused.
 pub enum FileAnswer {
     Done,
-    // a block that is lent is not 1,024 long, or the numbers to be written are no whole blocks or more than 256 of them
+    // a block or the room for places that is lent is not 1,024 long, or the numbers to be written are no whole blocks or more than 256 of them
     Block,
     // the file is cut short: in its first four bytes, in the entries or in the bodies
     Cut,
@@ -36,7 +36,7 @@ pub enum FileAnswer {
     Beyond,
     // a run index is out of range; the lowest block that has one
     Runs(usize),
-    // the output is shorter than what is to be written: the file, one body of it, or the rows that were found
+    // the output, or the room for rows, is too short for what is to be written there
     Room,
     // a smallest or largest value is not the body's true one; the lowest block that has one
     Range(usize),
@@ -186,17 +186,30 @@ pub fn range_or(front: &[u8], i: usize) -> Range
     any_range()
 }
 
+// Whether entry i is all there and right: as laid out, of a kind that its edition takes, and with a smallest value that is not above
+// its largest.
+pub fn has_right_entry(front: &[u8], i: usize) -> bool
+    ensures { λ r. ⌜ r ≡ hasRightEntry (now (front .entry)) i ⌝ }
+{
+    let edition = edition(front);
+    if has_entry(front, edition, i) {
+        return is_right(front, edition, i, contents_size(edition, i));
+    }
+    false
+}
+
 // Whether entry i is all there.
 fn has_entry(front: &[u8], edition: usize, i: usize) -> bool
     ensures { λ r. ⌜ r ≡ leb (contentsSize edition (i + 1)) (length (now (front .entry))) ⌝ }
 {
-    if front.len() < 4 {
+    let bytes = front.len();
+    if bytes < 4 {
         return false;
     }
     if edition == 2 {
-        return i < (front.len() - 4) / 32;
+        return i < (bytes - 4) / 32;
     }
-    i < (front.len() - 4) / 16
+    i < (bytes - 4) / 16
 }
 
 // How many bytes contents of n entries have, where that is a number of 64 bits.

@@ -8,7 +8,8 @@ use Rattle.contents.specs.declared.Range.{Range}
 use Rattle.files.specs.declared.Row.{Row}
 use Rattle.writer.specs.declared.Written.{Written}
 use Rattle.search.specs.declared.Found.{Found}
-use Rattle.exports.specs.FileHanded.{FileHanded, RowHanded, WrittenHanded, FoundHanded, EntryHanded, RangeHanded}
+use Rattle.compare.specs.declared.Compared.{Compared}
+use Rattle.exports.specs.FileHanded.{FileHanded, RowHanded, WrittenHanded, FoundHanded, ComparedHanded, EntryHanded, RangeHanded}
 
 pub file-on : {a b : FileAnswer} {n p : ℕ} → a ≡ b → FileHanded a n p → FileHanded b n p
 file-on {n = n} {p = p} = subst (λ x. FileHanded x n p)
@@ -21,6 +22,9 @@ written-on {n = n} {l = l} {p = p} = subst (λ x. WrittenHanded x n l p)
 
 pub found-on : {a b : Found} {n k o p : ℕ} → a ≡ b → FoundHanded a n k o p → FoundHanded b n k o p
 found-on {n = n} {k = k} {o = o} {p = p} = subst (λ x. FoundHanded x n k o p)
+
+pub compared-on : {a b : Compared} {n k p : ℕ} → a ≡ b → ComparedHanded a n k p → ComparedHanded b n k p
+compared-on {n = n} {k = k} {p = p} = subst (λ x. ComparedHanded x n k p)
 
 pub entry-on : {a b : Entry} {k w z l r : ℕ} → a ≡ b → EntryHanded a k w z l r → EntryHanded b k w z l r
 entry-on {k = k} {w = w} {z = z} {l = l} {r = r} = subst (λ x. EntryHanded x k w z l r)

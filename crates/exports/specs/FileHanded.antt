@@ -14,6 +14,8 @@ use Rattle.writer.specs.declared.Written.{Written}
 use Rattle.writer.specs.Writer as writer
 use Rattle.search.specs.declared.Found.{Found}
 use Rattle.search.specs.Search as search
+use Rattle.compare.specs.declared.Compared.{Compared}
+use Rattle.compare.specs.Changes as changes
 
 -- The number and the place that are handed over are those of this answer.
 pub record FileHanded (answer : FileAnswer) (number place : ℕ) : Type 0 where
@@ -43,6 +45,11 @@ pub record FoundHanded (result : Found) (number found opened place : ℕ) : Type
   pub its-answer : FileHanded (search.answerOf result) number place
   pub its-found : found ≡ search.rowsFound result
   pub its-opened : opened ≡ search.blocksOpened result
+
+-- Of the comparison of two blocks it is how many places differ.
+pub record ComparedHanded (compared : Compared) (number count place : ℕ) : Type 0 where
+  pub its-answer : FileHanded (changes.answerOf compared) number place
+  pub its-count : count ≡ changes.countOf compared
 
 -- An entry is handed over field by field.
 pub record EntryHanded (e : Entry) (kind width zero length reference : ℕ) : Type 0 where

@@ -2,6 +2,7 @@
 // front of a file, its contents, and one body at a time asks the ones that come after them.
 use access::NO_COUNT;
 use access::Words;
+use compare::Compared;
 use compare::blocks_in_both;
 use compare::check_block;
 use compare::differing;
@@ -26,20 +27,17 @@ use writer::Written;
 use writer::write;
 ghost use mathlib.Core.Path.{_≡_};
 ghost use Prim.Native.Nat.{_*_, min};
-ghost use lib.ListN.{length};
-ghost use Rattle.places.specs.Tab.{over};
 ghost use Rattle.contents.specs.Answers.{fileAnswer};
 ghost use Rattle.contents.specs.Contents.{contentsSize, contentsTests, editionOr, countOr, entryOr, rangeOr};
-ghost use Rattle.bodies.specs.Bodies.{blockTests as bodyTests, blockLeaves as bodyLeaves};
 ghost use Rattle.files.specs.Files.{fileTests, blockTests, blockLeaves};
 ghost use Rattle.files.specs.Rows.{rowOf};
 ghost use Rattle.writer.specs.Writer.{writtenOf, fileLeaves};
 ghost use Rattle.search.specs.Search.{foundOf, searchLeaves};
 ghost use Rattle.rewrite.specs.Rewrite.{rewrittenOf, rewriteLeaves};
 ghost use Rattle.canonical.specs.Canonical.{canonicalTests};
-ghost use Rattle.compare.specs.Changes.{listedOf};
-ghost use Rattle.compare.specs.Steps.{frontSize, inBlock, rangeAnswer, sameRange};
-ghost use Rattle.exports.specs.FileHanded.{FileHanded, rowWords, RowHanded, WrittenHanded, FoundHanded, EntryHanded, RangeHanded};
+ghost use Rattle.compare.specs.Changes.{comparedOf, differingLeaves};
+ghost use Rattle.compare.specs.Steps.{frontSize, blockTests as bodyTests, blockLeaves as bodyLeaves, rangeTests, sameRange};
+ghost use Rattle.exports.specs.FileHanded.{FileHanded, rowWords, RowHanded, WrittenHanded, FoundHanded, ComparedHanded, EntryHanded, RangeHanded};
 
 // Checks a column file, whole.
 #[no_mangle]
@@ -228,7 +226,7 @@ pub extern "C" fn fascjoldi_front_blocks_in_both(left: &[u8], right: &[u8]) -> u
 }
 
 // Checks one body against the contents, and lays down its 1,024 numbers. Of 8 and 11 it is the body that is cut short or too long; 10, also where
-// there is no such block, has the place 0, and 13 has the block.
+// the front has no such entry, and 13 have the block as place.
 #[no_mangle]
 pub extern "C" fn fascjoldi_body_block_out(
     front: &[u8],
@@ -237,14 +235,14 @@ pub extern "C" fn fascjoldi_body_block_out(
     output: &mut [u64],
     place: &mut usize,
 ) -> usize
-    ensures { λ r. ⌜ FileHanded (inBlock block (fileAnswer (bodyTests (entryOr (now (front .entry)) block) (now (body .entry)) (now (output .entry))))) r (now (place .exit)) ⌝ }
-    ensures { λ _. ⌜ now (output .exit) ≡ bodyLeaves (entryOr (now (front .entry)) block) (now (body .entry)) (now (output .entry)) ⌝ }
+    ensures { λ r. ⌜ FileHanded (fileAnswer (bodyTests (now (front .entry)) block (now (body .entry)) (now (output .entry)))) r (now (place .exit)) ⌝ }
+    ensures { λ _. ⌜ now (output .exit) ≡ bodyLeaves (now (front .entry)) block (now (body .entry)) (now (output .entry)) ⌝ }
 {
     hand(compare::block_of(front, block, body, output), place)
 }
 
-// Checks the smallest and the largest of a block's numbers, which were laid down, against what the contents say: 15 with the block, and nothing
-// is tested in edition 1, which says none. Any length of values is taken.
+// Checks the smallest and the largest of a block's numbers, which were laid down, against what the contents say: 10 with the block where its entry
+// is not right, then 15 with the block; edition 1 says no smallest and largest number, so there 15 is not given. Any length of values is taken.
 #[no_mangle]
 pub extern "C" fn fascjoldi_body_check_range(
     front: &[u8],
@@ -252,23 +250,25 @@ pub extern "C" fn fascjoldi_body_check_range(
     values: &[u64],
     place: &mut usize,
 ) -> usize
-    ensures { λ r. ⌜ FileHanded (rangeAnswer (now (front .entry)) block (now (values .entry))) r (now (place .exit)) ⌝ }
+    ensures { λ r. ⌜ FileHanded (fileAnswer (rangeTests (now (front .entry)) block (now (values .entry)))) r (now (place .exit)) ⌝ }
 {
     hand(check_block(front, block, values), place)
 }
 
-// Lists the places at which two blocks of 1,024 numbers differ, rising, and says how many they are. The places behind
-// these stay as they were; so do all, and the result is 0, where a block or the room is not 1,024 long.
+// Lists the places at which two blocks of 1,024 numbers differ, rising, and gives how many they are; refused, the count is 0. The places behind
+// these stay as they were. A block or room for places that is not 1,024 long is refused with 2.
 #[no_mangle]
 pub extern "C" fn fascjoldi_block_differing(
     left: &[u64],
     right: &[u64],
     places: &mut [u16],
+    count: &mut usize,
+    place: &mut usize,
 ) -> usize
-    ensures { λ r. ⌜ r ≡ length (listedOf (now (left .entry)) (now (right .entry)) (now (places .entry))) ⌝ }
-    ensures { λ _. ⌜ now (places .exit) ≡ over 0 (listedOf (now (left .entry)) (now (right .entry)) (now (places .entry))) (now (places .entry)) ⌝ }
+    ensures { λ r. ⌜ ComparedHanded (comparedOf (now (left .entry)) (now (right .entry)) (now (places .entry))) r (now (count .exit)) (now (place .exit)) ⌝ }
+    ensures { λ _. ⌜ now (places .exit) ≡ differingLeaves (now (left .entry)) (now (right .entry)) (now (places .entry)) ⌝ }
 {
-    differing(left, right, places)
+    hand_compared(differing(left, right, places), count, place)
 }
 
 // Hands the answer of a call on a file over: its place through the lent number, and its number as the result.
@@ -314,6 +314,14 @@ fn hand_found(result: Found, found: &mut usize, opened: &mut usize, place: &mut 
     *found = result.rows();
     *opened = result.opened();
     hand(result.answer(), place)
+}
+
+// Hands over what the comparison of two blocks gives.
+fn hand_compared(compared: Compared, count: &mut usize, place: &mut usize) -> usize
+    ensures { λ r. ⌜ ComparedHanded compared r (now (count .exit)) (now (place .exit)) ⌝ }
+{
+    *count = compared.count();
+    hand(compared.answer(), place)
 }
 
 // Hands over an entry.

@@ -78,9 +78,9 @@ pub fn search(file: &[u8], low: u64, high: u64, rows: &mut [u64]) -> Found
     if k == 0 {
         return Found::Rows(0, 0);
     }
-    let answer = check_opened(file, low, high);
-    if answer.number() != 0 {
-        return Found::Refused(answer);
+    let checked = check_opened(file, low, high);
+    if checked.number() != 0 {
+        return Found::Refused(checked);
     }
     if !has_room(file, low, high, k, rows.len()) {
         return Found::Refused(FileAnswer::Room);
@@ -111,7 +111,8 @@ fn opens(file: &[u8], i: usize, low: u64, high: u64) -> bool
     requires { ⌜ i < countIn (now file) ⌝ }
     ensures { λ r. ⌜ r ≡ opensIn (now (file .entry)) low high i ⌝ }
 {
-    if edition(file) == 1 {
+    let edition = edition(file);
+    if edition == 1 {
         return true;
     }
     meets(range_or(file, i), low, high)

@@ -4,10 +4,11 @@ use mathlib.Core.Path.{refl, sym, ap, _∙_}
 use denote.Ref.{now}
 use lib.ListN.{replicate}
 use borrow.Author.Needs.{needs}
-use Rattle.compare.specs.Steps.{rangeAnswer}
+use Rattle.contents.specs.Answers.{fileAnswer}
 use Rattle.contents.specs.Contents.{entryOr}
-use Rattle.compare.proofs.Steps.{range-none, block-laid}
 use Rattle.bodies.specs.Bodies.{blockOf, blockLeaves}
+use Rattle.compare.specs.Steps.{rangeTests}
+use Rattle.compare.proofs.Steps.{block-laid, body-done, done-right, range-none, range-answer}
 use Rattle.compare.proofs.check_range.Statement.{statement}
 use Rattle.compare.proofs.check_range.Tie as tie
 
@@ -16,8 +17,11 @@ edition-requires c κs = search needs
 
 returns : tie.Need-returns
 returns c =
-    let args = c .before .before .before .before .args in
-    sym (range-none (now (args .front)) (args .i) (blockOf (entryOr (now (args .front)) (args .i)) (now (args .body))) (λ e. c .if1 .taken (c .before .edition .ensures ∙ e)))
+    let start = c .before .before .before .before in
+    let front = now (start .args .front) in
+    let block = blockOf (entryOr front (start .args .i)) (now (start .args .body)) in
+    sym (range-answer front (start .args .i) block (done-right front (start .args .i) _ (start .pre))
+    (range-none front (start .args .i) block (λ e. c .if1 .taken (c .before .edition .ensures ∙ e))))
 
 entry-or-requires : tie.Need-entry-or-requires
 entry-or-requires c κs = search needs
@@ -42,10 +46,10 @@ returns-2 c =
     let front = now (start .args .front) in
     let body = now (start .args .body) in
     c .check-block .ensures
-    ∙ ap (rangeAnswer front (start .args .i))
+    ∙ ap (λ b. fileAnswer (rangeTests front (start .args .i) b))
     (laid .block-of .ensures .1
     ∙ ap (λ e. blockLeaves e body (replicate 1024 0)) (read .entry-or .ensures)
-    ∙ block-laid (entryOr front (start .args .i)) body (replicate 1024 0) (start .pre) refl)
+    ∙ block-laid (entryOr front (start .args .i)) body (replicate 1024 0) (body-done front (start .args .i) body (start .pre)) refl)
 
 pub check-range-spec : {M : Type 1} → statement M
 check-range-spec =

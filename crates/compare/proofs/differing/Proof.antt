@@ -3,56 +3,76 @@
 use mathlib.Core.Path.{sym, _∙_}
 use denote.Ref.{now}
 use borrow.Author.Needs.{needs}
-use Rattle.compare.proofs.Noted.{bad-left, bad-right, bad-room, none-differ, some-differ}
+use Rattle.contents.proofs.Answers.{number-done}
+use Rattle.compare.proofs.Noted.{lengths-refused, lengths-are, none-differ, some-differ}
 use Rattle.compare.proofs.differing.Statement.{statement}
 use Rattle.compare.proofs.differing.Tie as tie
 
-returns : tie.Need-returns
-returns c =
-    let args = c .before .before .before .before .args in
-    bad-left (now (args .left)) (now (args .right)) (now (args .places)) (c .if1 .taken)
+check-lengths-requires : tie.Need-check-lengths-requires
+check-lengths-requires c κs = search needs
 
-returns-2 : tie.Need-returns-2
-returns-2 c =
-    let args = c .before .before .before .before .before .args in
-    bad-right (now (args .left)) (now (args .right)) (now (args .places)) (c .before .if1 .left) (c .if2 .taken)
-
-returns-3 : tie.Need-returns-3
-returns-3 c =
-    let args = c .before .before .before .before .before .before .args in
-    bad-room (now (args .left)) (now (args .right)) (now (args .places)) (c .before .before .if1 .left) (c .before .if2 .left) (c .if3 .taken)
-
-are-same-requires : tie.Need-are-same-requires
-are-same-requires c κs = search needs
-
-returns-4 : tie.Need-returns-4
-returns-4 c =
-    let whole = c .before .before in
-    let args = whole .before .before .before .before .before .before .args in
-    none-differ (now (args .left)) (now (args .right)) (now (args .places)) (whole .before .before .if1 .left) (whole .before .if2 .left) (whole .if3 .left) (sym (c .before .are-same .ensures) ∙ c .if4 .taken)
-
-list-places-requires : tie.Need-list-places-requires
-list-places-requires c κs = search needs
+number-requires : tie.Need-number-requires
+number-requires c κs = search needs
 
 same-length : tie.Need-same-length
 same-length c = search needs
 
-returns-5 : tie.Need-returns-5
-returns-5 c =
+returns : tie.Need-returns
+returns c =
+    let tested = c .before .before in
+    let args = tested .before .before .before .before .before .args in
+    lengths-refused (now (args .left)) (now (args .right)) (now (args .places)) (tested .check-lengths .ensures) (λ z. c .if1 .taken (c .before .number .ensures ∙ z))
+
+are-same-requires : tie.Need-are-same-requires
+are-same-requires c κs =
+    let tested = c .before .before in
+    let args = tested .before .before .before .before .before .args in
+    let done = sym (tested .check-lengths .ensures) ∙ number-done _ (sym (c .before .number .ensures) ∙ c .if1 .left) in
+    let long = lengths-are (now (args .left)) (now (args .right)) (now (args .places)) done in
+    (long .0, long .1 .0)
+
+same-length-2 : tie.Need-same-length-2
+same-length-2 c = search needs
+
+returns-2 : tie.Need-returns-2
+returns-2 c =
+    let whole = c .before .before in
+    let tested = whole .before .before in
+    let args = tested .before .before .before .before .before .args in
+    let done = sym (tested .check-lengths .ensures) ∙ number-done _ (sym (whole .before .number .ensures) ∙ whole .if1 .left) in
+    none-differ (now (args .left)) (now (args .right)) (now (args .places)) done (sym (c .before .are-same .ensures) ∙ c .if2 .taken)
+
+list-places-requires : tie.Need-list-places-requires
+list-places-requires c κs =
+    let whole = c .before .before .before in
+    let tested = whole .before .before in
+    let args = tested .before .before .before .before .before .args in
+    let done = sym (tested .check-lengths .ensures) ∙ number-done _ (sym (whole .before .number .ensures) ∙ whole .if1 .left) in
+    lengths-are (now (args .left)) (now (args .right)) (now (args .places)) done
+
+same-length-3 : tie.Need-same-length-3
+same-length-3 c = search needs
+
+returns-3 : tie.Need-returns-3
+returns-3 c =
     let listed = c .before .before in
-    let whole = c .before .before .before .before .before .before in
-    let args = whole .before .before .before .before .before .before .args in
-    some-differ (now (args .left)) (now (args .right)) (now (args .places)) (whole .before .before .if1 .left) (whole .before .if2 .left) (whole .if3 .left) (listed .list-places .ensures .0) (listed .list-places .ensures .1)
+    let whole = listed .before .before .before .before in
+    let tested = whole .before .before in
+    let args = tested .before .before .before .before .before .args in
+    let done = sym (tested .check-lengths .ensures) ∙ number-done _ (sym (whole .before .number .ensures) ∙ whole .if1 .left) in
+    some-differ (now (args .left)) (now (args .right)) (now (args .places)) done (listed .list-places .ensures .0) (listed .list-places .ensures .1)
 
 pub differing-spec : {M : Type 1} → statement M
 differing-spec =
     tie.close
     (tie.spec
-    returns
-    returns-2
-    returns-3
-    are-same-requires
-    returns-4
-    list-places-requires
+    check-lengths-requires
+    number-requires
     same-length
-    returns-5)
+    returns
+    are-same-requires
+    same-length-2
+    returns-2
+    list-places-requires
+    same-length-3
+    returns-3)

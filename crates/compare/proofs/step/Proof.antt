@@ -1,91 +1,60 @@
--- `compare::step` meets its contract, case by case.
+-- `compare::step` meets its contract: a refusal stays, then the body is tested, and then the range of its block.
 -- Assumes nothing.
 use mathlib.Core.Path.{sym, ap, _∙_}
 use denote.Ref.{now}
 use borrow.Author.Needs.{needs}
-use borrow.Author.Tests.{not-true, not-false}
-use Rattle.compare.proofs.Steps.{placed-done, step-settled, step-bad, step-kept, step-range}
-use Rattle.contents.specs.Contents.{entryOr}
-use Rattle.contents.specs.Answers.{fileAnswer, numberOf}
-use Rattle.bodies.specs.Bodies.{bodyTests}
-use Rattle.compare.specs.Steps.{bodyAnswer}
+use Rattle.contents.specs.Answers.{numberOf}
+use Rattle.contents.proofs.Answers.{number-done}
+use Rattle.compare.proofs.Steps.{step-settled, step-body, step-range}
 use Rattle.compare.proofs.step.Statement.{statement}
 use Rattle.compare.proofs.step.Tie as tie
-
-is-open-requires : tie.Need-is-open-requires
-is-open-requires c κs = search needs
-
-returns : tie.Need-returns
-returns c =
-    let args = c .before .before .before .before .args in
-    sym (step-settled (args .answer) (now (args .front)) (args .i) (now (args .body)) (sym (c .before .is-open .ensures) ∙ not-true _ (c .if1 .taken)))
-
-check-body-requires : tie.Need-check-body-requires
-check-body-requires c κs = search needs
 
 number-requires : tie.Need-number-requires
 number-requires c κs = search needs
 
-returns-2 : tie.Need-returns-2
-returns-2 c =
-    let found = c .before .before in
-    let unsettled = found .before in
-    let args = unsettled .before .before .before .before .args in
-    let front = now (args .front) in
-    let body = now (args .body) in
-    let opened = sym (unsettled .before .is-open .ensures) ∙ not-false _ (unsettled .if1 .left) in
-    found .check-body .ensures
-    ∙ sym (step-bad (args .answer) front (args .i) body opened
-    (λ z. c .if2 .taken (c .before .number .ensures ∙ ap numberOf (found .check-body .ensures) ∙ z)))
+returns : tie.Need-returns
+returns c =
+    let args = c .before .before .before .before .args in
+    sym (step-settled (now (args .front)) (args .i) (now (args .body)) (args .answer) (λ z. c .if1 .taken (c .before .number .ensures ∙ z)))
+
+check-body-requires : tie.Need-check-body-requires
+check-body-requires c κs = search needs
 
 number-requires-2 : tie.Need-number-requires-2
 number-requires-2 c κs = search needs
 
-returns-3 : tie.Need-returns-3
-returns-3 c =
-    let passed = c .before .before in
-    let found = passed .before .before in
-    let unsettled = found .before in
-    let args = unsettled .before .before .before .before .args in
-    let front = now (args .front) in
-    let body = now (args .body) in
-    let opened = sym (unsettled .before .is-open .ensures) ∙ not-false _ (unsettled .if1 .left) in
-    let good = sym (ap numberOf (found .check-body .ensures)) ∙ sym (passed .before .number .ensures) ∙ passed .if2 .left in
-    sym (step-kept (args .answer) front (args .i) body opened good (λ z. c .if3 .taken (c .before .number2 .ensures ∙ z)))
+returns-2 : tie.Need-returns-2
+returns-2 c =
+    let found = c .before .before in
+    let empty = found .before in
+    let args = empty .before .before .before .before .args in
+    found .check-body .ensures
+    ∙ sym (step-body (now (args .front)) (args .i) (now (args .body)) (args .answer) (sym (empty .before .number .ensures) ∙ empty .if1 .left)
+    (λ d. c .if2 .taken (c .before .number2 .ensures ∙ ap numberOf (found .check-body .ensures ∙ d))))
 
 check-range-requires : tie.Need-check-range-requires
-unfolding bodyAnswer
 check-range-requires c κs =
-    let passed = c .before .before in
-    let found = passed .before .before in
-    let args = found .before .before .before .before .before .args in
-    let good = sym (ap numberOf (found .check-body .ensures)) ∙ sym (passed .before .number .ensures) ∙ passed .if2 .left in
-    placed-done (args .i) (fileAnswer (bodyTests (entryOr (now (args .front)) (args .i)) (now (args .body)))) good
+    let found = c .before .before in
+    sym (found .check-body .ensures) ∙ number-done _ (sym (c .before .number2 .ensures) ∙ c .if2 .left)
 
-returns-4 : tie.Need-returns-4
-returns-4 c =
-    let empty = c .before in
-    let passed = empty .before .before in
+returns-3 : tie.Need-returns-3
+returns-3 c =
+    let passed = c .before in
     let found = passed .before .before in
-    let unsettled = found .before in
-    let args = unsettled .before .before .before .before .args in
-    let front = now (args .front) in
-    let body = now (args .body) in
-    let opened = sym (unsettled .before .is-open .ensures) ∙ not-false _ (unsettled .if1 .left) in
-    let good = sym (ap numberOf (found .check-body .ensures)) ∙ sym (passed .before .number .ensures) ∙ passed .if2 .left in
+    let empty = found .before in
+    let args = empty .before .before .before .before .args in
     c .check-range .ensures
-    ∙ sym (step-range (args .answer) front (args .i) body opened good (sym (empty .before .number2 .ensures) ∙ empty .if3 .left))
+    ∙ sym (step-range (now (args .front)) (args .i) (now (args .body)) (args .answer) (sym (empty .before .number .ensures) ∙ empty .if1 .left)
+    (sym (found .check-body .ensures) ∙ number-done _ (sym (passed .before .number2 .ensures) ∙ passed .if2 .left)))
 
 pub step-spec : {M : Type 1} → statement M
 step-spec =
     tie.close
     (tie.spec
-    is-open-requires
+    number-requires
     returns
     check-body-requires
-    number-requires
-    returns-2
     number-requires-2
-    returns-3
+    returns-2
     check-range-requires
-    returns-4)
+    returns-3)

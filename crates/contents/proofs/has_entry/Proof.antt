@@ -20,18 +20,12 @@ returns c =
     let args = c .before .args in
     sym (lt-leb (contentsSize (args .edition) (args .i + 1)) (length (now (args .front))) (omega (arith, size-least (args .edition) (args .i + 1))))
 
-sub-result : tie.Need-sub-result
-sub-result c = search needs
-
 returns-2 : tie.Need-returns-2
 returns-2 c =
     let args = c .before .before .args in
     let size = size-second (args .edition) (args .i + 1) (c .if2 .taken) in
     let bytes = length (now (args .front)) in
     same-leb (suc (args .i)) ((bytes - 4) / 32) (contentsSize (args .edition) (args .i + 1)) bytes (λ h. omega (arith, size)) (λ h. omega (arith, size))
-
-sub-result-2 : tie.Need-sub-result-2
-sub-result-2 c = search needs
 
 returns-3 : tie.Need-returns-3
 returns-3 c =
@@ -41,4 +35,4 @@ returns-3 c =
     same-leb (suc (args .i)) ((bytes - 4) / 16) (contentsSize (args .edition) (args .i + 1)) bytes (λ h. omega (arith, size)) (λ h. omega (arith, size))
 
 pub has-entry-spec : {M : Type 1} → statement M
-has-entry-spec = tie.close (tie.spec returns sub-result returns-2 sub-result-2 returns-3)
+has-entry-spec = tie.close (tie.spec returns returns-2 returns-3)

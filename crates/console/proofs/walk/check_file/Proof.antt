@@ -30,8 +30,8 @@ contents-length-requires c κs = search needs
 loop-holds : tie.Need-loop-holds Inv-loop μ-loop
 loop-holds c = search needs
 
-is-open-requires : tie.Need-is-open-requires Inv-loop μ-loop
-is-open-requires c κs = search needs
+number-requires : tie.Need-number-requires Inv-loop μ-loop
+number-requires c κs = search needs
 
 same-length : tie.Need-same-length Inv-loop μ-loop
 same-length c = search needs
@@ -83,7 +83,7 @@ check-file-spec =
     count-requires
     contents-length-requires
     loop-holds
-    is-open-requires
+    number-requires
     same-length
     returns
     entry-or-requires
