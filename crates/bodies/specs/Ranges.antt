@@ -5,12 +5,13 @@ use mathlib.Core.List.{List, [], _∷_}
 use Prim.Native.Nat.{ℕ, min}
 use lib.Dec.{eqb}
 use Rattle.places.specs.Pick.{both}
+use Rattle.places.specs.Sizes.{largestU64}
 use Rattle.runs.specs.Highest.{highestOf}
 use Rattle.contents.specs.declared.Range.{Range}
 
--- This is the lowest number of the list, and where the list is empty the highest number of 64 bits.
+-- This is the lowest number of the list, and where the list is empty the largest u64.
 unfoldable pub lowestOf : List ℕ → ℕ
-lowestOf [] = 18446744073709551615
+lowestOf [] = largestU64
 lowestOf (x ∷ xs) = min x (lowestOf xs)
 
 -- The true range of a block is from its lowest number to its highest.

@@ -9,6 +9,7 @@ use Prim.Native.Nat.{ℕ, zero, suc, _+_, _*_, _%_}
 use lib.Dec.{eqb, leb, ltb}
 use lib.ListN.{length, getD}
 use Rattle.places.specs.Pick.{pick, both}
+use Rattle.places.specs.Sizes.{largestU64}
 use Rattle.little.specs.Little.{little, littleOr}
 use Rattle.contents.specs.declared.Entry.{Entry}
 use Rattle.contents.specs.declared.Range.{Range}
@@ -49,9 +50,9 @@ entryOf l i = entryAt l (contentsSize (edition l) i)
 abbrev pub rangeAt : (l : List ℕ) (at : ℕ) → Range
 rangeAt l at = record { smallest = little l at 8; largest = little l (at + 8) 8 }
 
--- From 0 to the highest number of 64 bits is the range of a block of which the contents say none.
+-- From 0 to the largest u64 is the range of a block of which the contents say none.
 abbrev pub anyRange : Range
-anyRange = record { smallest = 0; largest = 18446744073709551615 }
+anyRange = record { smallest = 0; largest = largestU64 }
 
 -- This is the range that entry i says: in edition 2 its last sixteen bytes, and in edition 1 every number.
 unfoldable pub rangeOf : (l : List ℕ) (i : ℕ) → Range
