@@ -2,7 +2,8 @@
 // lent as bytes. check, block_out and row_at check the whole file before they answer for a block or a row, by the steps that stand in crates of
 // their own: the contents against the file's length, each body against its entry, and in edition 2 the smallest and the largest
 // value of each block against what its entry says. Of an edition 1 file none of them reads a body twice; of an edition 2 file each
-// lays every block down once for its smallest and largest value, and one block out lays its block down once more. The four calls
+// lays every block down once for its smallest and largest value, and one block out, as the lookup of a row of kind 2, lays its block down once
+// more. A row of kind 0 or 1 is looked up in its body. The four calls
 // whose names end in from are for a walk over the bodies, behind a check: they look at one body, and check nothing else.
 mod lookup;
 

@@ -2,7 +2,7 @@
 // the two words that hold the value are read from the bytes. So the words that are counted are the words that are read.
 //
 // This is not single access, which looks lane and row up in its tables: it reads bytes of a file, and the block is of 64 bits. That both give
-// the same value and the same count is a law.
+// the same value and the same count is a law. The module is private: its functions are public to the module above alone.
 use access::Words;
 use little::word;
 use places::order;
