@@ -42,7 +42,7 @@ bit-digit b m k j h =
 pub bit-number : (b : ℕ) (f : ℕ → ℕ) (n x : ℕ) → 0 < b → ((k : ℕ) → k < n → f k < 2 ^ b) → x < n * b
     → bit (number b f n) x ≡ bit (f (x / b)) (x % b)
 bit-number b f n x some small h =
-    let k : x / b < n = div-lt-iff-lt-mul (lanes-some s) .1 h in
+    let k : x / b < n = div-lt-iff-lt-mul some .1 h in
     ap (bit (number b f n)) (sym (ap (λ y. y + x % b) (mul-comm b (x / b)) ∙ div-add-mod' x b))
     ∙ sym (bit-digit b (number b f n) (x / b) (x % b) (mod-lt x some))
     ∙ ap (λ d. bit d (x % b)) (digit-number b f n (x / b) small k)
