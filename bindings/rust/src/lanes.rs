@@ -1,4 +1,4 @@
-//! The names and signatures of the crate fastlanes 0.7.2, over the calls of this one.
+//! The names and, but for the indices of `decode_unchecked`, the signatures of the crate fastlanes 0.7.2, over the calls of this one.
 //!
 //! Where the width and the lengths are in the types, they are tested when the program is compiled, and no such call is ever refused. Where
 //! the crate's signature has no room for a refusal that can come about while the program runs, the call panics with its number and place.

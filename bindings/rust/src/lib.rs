@@ -1,9 +1,9 @@
 //! Fascjoldi's calls for Rust: blocks of 1,024 unsigned integers packed, unpacked and looked up, and column files of them.
 //!
 //! [`Blocks`] has the calls on slices of any length: what cannot be done is [`Refused`], with a number and a place, and leaves every
-//! buffer as it was. [`BitPacking`], [`Delta`], [`FoR`], [`Transpose`] and [`RLE`] have the names and signatures of the crate fastlanes
-//! 0.7.2 over the same calls, so that a program written against that crate changes its `use` line. [`files`] has the calls on column files,
-//! and [`chunks`] a packed body that comes in parts.
+//! buffer as it was. [`BitPacking`], [`Delta`], [`FoR`], [`Transpose`] and [`RLE`] have the names and, but for the indices of
+//! `decode_unchecked`, the signatures of the crate fastlanes 0.7.2 over the same calls, so that a program written against that crate
+//! changes its `use` line. [`files`] has the calls on column files, and [`chunks`] a packed body that comes in parts.
 //!
 //! Each call is a function of the archive `libexports.a`, which is proved to answer as its definition says, for any input. What
 //! that proof takes for granted of pointers, lengths and overlapping is what Rust sees to for slices and references, so the calls here are

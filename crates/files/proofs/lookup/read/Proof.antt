@@ -1,12 +1,12 @@
 -- `files::lookup::read` meets its contract: each width's rule gives the one digit.
 -- Assumes nothing.
 use mathlib.Core.Path.{_≡_, sym, ap, _∙_}
-use Prim.Native.Nat.{ℕ, _+_, _*_, _%_, _≤_}
 use native.Mathlib.Omega.{arith}
 use denote.Ref.{now}
 use borrow.Author.Needs.{needs}
 use Rattle.places.specs.Numbers.{digit, Elements}
 use Rattle.places.specs.Sizes.{t64}
+use Rattle.places.proofs.Places.{whole-word}
 use Rattle.packing.specs.Packed.{wordsNumber}
 use Rattle.packing.proofs.Rounds.{digit-zero, digit-words}
 use Rattle.access.proofs.Counts.{words-none, words-one}
@@ -33,10 +33,6 @@ word-at-requires c κs =
     let start = c .before .before .before in
     word-in (start .args .width) _ _ _ (start .pre .1 .1 .0) (omega arith) (start .pre .1 .0)
 
--- a value of 64 bits is a word
-whole-word : (r : ℕ) {w : ℕ} → w ≡ t64 → r * w % t64 + w ≤ t64
-whole-word r e = omega (arith, e, ap (λ w. r * w) e)
-
 returns : tie.Need-returns
 returns c =
     let start = c .before .before in
@@ -61,7 +57,7 @@ returns-3 c =
     let value = ap (λ w. digit w (wordsNumber t64 w (packedFrom body 0 w) l) r) full ∙ digit-words t64 t64 l (start .pre .1 .1 .0) packed small r (start .pre .1 .1 .1) in
     record {
       its-value = c .word-at .ensures ∙ packed-word 64 l r body (start .pre .1 .1 .0) (start .pre .1 .1 .1) ∙ sym value;
-      its-words = sym (words-one t64 _ _ (λ e. omega arith) (whole-word r full));
+      its-words = sym (words-one t64 _ _ (λ e. omega arith) (whole-word t64 r full));
     }
 
 pub read-spec : {M : Type 1} → statement M
