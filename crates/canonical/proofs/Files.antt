@@ -16,7 +16,7 @@ use Rattle.contents.specs.Answers.{fileAnswer}
 use Rattle.contents.specs.Contents.{edition, count, contentsSize, entryAt, entryOf, rangeAt, rangeOf, anyRange, bodiesSize, bodyStart, contentsTests}
 use Rattle.contents.proofs.Sizes.{size-second}
 use Rattle.files.specs.Files.{bodyOf}
-use Rattle.files.proofs.Files.{whole, first-start, next-start}
+use Rattle.bodywise.proofs.Told.{whole, first-start, next-start}
 
 -- Every byte is below 256.
 abbrev pub Bytes : List ℕ → Type 0

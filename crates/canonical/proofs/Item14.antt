@@ -25,7 +25,7 @@ use Rattle.runs.specs.Highest.{highestOf}
 use Rattle.candidates.specs.Candidates.{chosen, bodyFor}
 use Rattle.files.specs.Files.{bodyOf, blockIn, rowsOf, hasTrueRange, fileTests}
 use Rattle.files.specs.Plain.{Reason}
-use Rattle.files.proofs.Files.{whole}
+use Rattle.bodywise.proofs.Told.{whole}
 use Rattle.files.proofs.Ranges.{ranges-true}
 use Rattle.files.proofs.Reasons.{lowest-found, none-found, before-holds, at-fails, all-hold, reason-gives, file-exactly}
 use Rattle.files.proofs.Rows.{rows-fit}

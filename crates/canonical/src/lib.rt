@@ -5,7 +5,6 @@
 use candidates::lay_block;
 use contents::Entry;
 use contents::FileAnswer;
-use contents::contents_length;
 use contents::count;
 use contents::edition;
 use contents::entry_or;
@@ -44,15 +43,13 @@ fn lowest_foreign(file: &[u8]) -> usize
     ensures { λ r. ⌜ r ≡ foreign (now (file .entry)) ⌝ }
 {
     let n = count(file);
-    let mut at = contents_length(file);
-    let mut i = 0;
-    while i < n {
-        if !is_ours(file, i, at) {
-            return i;
+    let mut body = bodywise::first(file);
+    while body.number < n {
+        if !is_ours(file, body.number, body.at) {
+            return body.number;
         }
-        let e = entry_or(file, i);
-        at += e.length as usize;
-        i += 1;
+        let next = bodywise::next(file, body);
+        body = next;
     }
     n
 }

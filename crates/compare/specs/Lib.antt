@@ -1,5 +1,4 @@
 pub mod Changes
-pub mod InnerPlaced
 pub mod InnerSame
 pub mod Plain
-pub mod Steps
+pub mod Ranges

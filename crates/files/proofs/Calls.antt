@@ -19,7 +19,8 @@ use Rattle.contents.proofs.Answers.{passed, stopped, none-left, refusal-not-don
 use Rattle.files.specs.declared.Row.the-variants.{Uncounted, Refused}
 use Rattle.files.specs.Files.{rowCount, rowAt, blockIn, badRange, fileTests, blockTests, blockLeaves, rowTests}
 use Rattle.files.specs.Rows.{given, rowOf}
-use Rattle.files.proofs.Files.{goodIn, left-picked, whole, entry-read}
+use Rattle.bodywise.proofs.Told.{whole, entry-read}
+use Rattle.files.proofs.Files.{goodIn, left-picked}
 use Rattle.files.proofs.Others.{badBut, asked-bad, none-bad}
 use Rattle.files.proofs.Ranges.{file-refused, file-ranges, ranges-done}
 

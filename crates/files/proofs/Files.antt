@@ -1,26 +1,21 @@
--- What holds of a file whose contents are right: its count and its entries are read as they stand, each body lies within the file, and the
--- test of one body tells of its run indices alone.
+-- What holds of a file whose contents are right: each body is as long as its entry says, and the test of one body tells of its run indices alone.
 -- Assumes nothing.
 use mathlib.Core.Bool.{Bool, true, false}
 use mathlib.Core.List.{List, [], _∷_}
 use mathlib.Core.Path.{_≡_, refl, sym, ap, ap₂, _∙_}
 use Prim.Native.Nat.{ℕ, suc, _+_, _-_, _≤_, _<_}
-use native.Mathlib.Numerals.{add-one}
 use native.Mathlib.Omega.{arith}
 use lib.ListN.{length, take, drop, length-take, length-drop}
 use lib.Dec.{eqb}
 use borrow.Author.Tests.{le-leb, eq-eqb}
 use Rattle.places.specs.Pick.{pick}
-use Rattle.little.proofs.Little.{little-within}
 use Rattle.contents.specs.declared.FileAnswer.the-variants.{Done, Runs}
 use Rattle.contents.specs.Answers.{good-runs, fileAnswer, isDone, left}
-use Rattle.contents.specs.Contents.{edition, count, editionOr, countOr, contentsSize, entryOf, entryOr, rangeOf, rangeOr, isLaidOut, bodiesSize, bodyStart, contentsTests}
-use Rattle.contents.proofs.Accepted.{Whole, whole-laid, accepted}
+use Rattle.contents.specs.Contents.{count, entryOf, bodyStart, contentsTests}
 use Rattle.contents.proofs.Answers.{passed, stopped, none-left}
 use Rattle.contents.proofs.First.{first-only}
-use Rattle.contents.proofs.Entries.{edition-there, entry-there, range-there, bodies-within}
-use Rattle.contents.proofs.Sizes.{size-before}
 use Rattle.bodies.specs.Bodies.{blockOf, hasGoodRuns, bodyTests, blockTests, blockLeaves}
+use Rattle.bodywise.proofs.Told.{body-ends, body-laid}
 use Rattle.files.specs.Files.{bodyOf, blockIn, badRuns}
 
 -- This test says that block i has its run indices in range.
@@ -43,43 +38,15 @@ left-picked true p new old = refl
 left-picked false p new old = refl
 
 module _ (l : List ℕ) (done : fileAnswer (contentsTests l (length l)) ≡ Done) where
-  pub whole : Whole l (length l)
-  whole = accepted l (length l) done
-
-  pub count-read : countOr l ≡ count l
-  count-read = little-within l 2 2 (whole .head)
-
-  pub edition-read : editionOr l ≡ edition l
-  edition-read = edition-there l (omega (arith, whole .head))
-
-  -- the first body begins behind the contents
-  pub length-read : contentsSize (editionOr l) (countOr l) ≡ bodyStart l 0
-  unfolding bodyStart bodiesSize
-  length-read = ap₂ contentsSize edition-read count-read ∙ omega arith
-
   module _ (i : ℕ) (h : i < count l) where
-    pub entry-read : entryOr l i ≡ entryOf l i
-    entry-read = entry-there l i (omega (arith, whole .room, size-before (edition l) i (count l) h, ap (contentsSize (edition l)) (add-one i)))
-
-    pub range-read : rangeOr l i ≡ rangeOf l i
-    range-read = range-there l i (omega (arith, whole .room, size-before (edition l) i (count l) h, ap (contentsSize (edition l)) (add-one i)))
-
-    -- a body ends within the file
-    pub body-ends : bodyStart l i + entryOf l i .length ≤ length l
-    unfolding bodyStart
-    body-ends = omega (arith, bodies-within l i (count l) h, whole .end)
-
     pub body-long : length (bodyOf l i) ≡ entryOf l i .length
     unfolding bodyOf
-    body-long = simp (length-take, length-drop) (omega (arith, body-ends))
-
-    pub body-laid : isLaidOut (entryOf l i) ≡ true
-    body-laid = whole-laid whole i h
+    body-long = simp (length-take, length-drop) (omega (arith, body-ends l done i h))
 
     -- of the tests of a body only that of its run indices is left
     pub body-tested : fileAnswer (bodyTests (entryOf l i) (bodyOf l i)) ≡ pick (goodIn l i) Done (Runs 0)
     body-tested =
-        passed _ _ (ap (λ b. eqb (pick b 1 0) 1) body-laid)
+        passed _ _ (ap (λ b. eqb (pick b 1 0) 1) (body-laid l done i h))
         ∙ passed _ _ (le-leb (entryOf l i .length) (length (bodyOf l i)) (omega (arith, body-long)))
         ∙ passed _ _ (le-leb (length (bodyOf l i)) (entryOf l i .length) (omega (arith, body-long)))
         ∙ runs-tested (goodIn l i)
@@ -96,15 +63,6 @@ module _ (l : List ℕ) (done : fileAnswer (contentsTests l (length l)) ≡ Done
     block-left output e =
         ap (λ a. left a (blockOf (entryOf l i) (bodyOf l i)) output) (block-tested output e)
         ∙ left-picked (goodIn l i) 0 (blockOf (entryOf l i) (bodyOf l i)) output
-
-  -- where the next body begins
-  pub next-start : (i : ℕ) → bodyStart l (suc i) ≡ bodyStart l i + entryOf l i .length
-  unfolding bodyStart bodiesSize
-  next-start i = omega arith
-
-  pub first-start : bodyStart l 0 ≡ contentsSize (edition l) (count l)
-  unfolding bodyStart bodiesSize
-  first-start = omega arith
 
 module _ (l : List ℕ) where
   -- The part of the file from where body i begins, as long as its entry says, is body i.

@@ -15,7 +15,8 @@ use Rattle.bodies.specs.Bodies as Bodies
 use Rattle.bodies.specs.Ranges.{isRange}
 use Rattle.files.specs.Files.{bodyOf, blockIn, hasTrueRange}
 use Rattle.files.specs.Froms.{bodyFrom, goodFrom, fromTests, fromLeaves, trueFrom}
-use Rattle.files.proofs.Files.{goodIn, entry-read, range-read, body-ends, body-tested, block-tested, block-left, tested-done}
+use Rattle.bodywise.proofs.Told.{entry-read, range-read, body-ends}
+use Rattle.files.proofs.Files.{goodIn, body-tested, block-tested, block-left, tested-done}
 
 module _ (l : List ℕ) (right : fileAnswer (contentsTests l (length l)) ≡ Done) (i : ℕ) (h : i < count l) (at : ℕ) (start : at ≡ bodyStart l i) where
   pub body-from-is : bodyFrom l i at ≡ bodyOf l i

@@ -1,9 +1,11 @@
 pub mod Calls
 pub mod Files
 pub mod Froms
+pub mod Held
 pub mod Lookups
 pub mod Others
 pub mod Ranges
 pub mod Reasons
+pub mod Recalled
 pub mod Rows
 pub mod Steps

@@ -21,7 +21,8 @@ use Rattle.bodies.proofs.Blocks.{Block, a-block, take-elements, drop-elements}
 use Rattle.bodies.proofs.Ranges.{Spans, range-spans}
 use Rattle.files.specs.Files.{bodyOf, blockIn, hasTrueRange, badRuns, badRange, fileTests}
 use Rattle.files.specs.InnerRuns.{runsTests}
-use Rattle.files.proofs.Files.{goodIn, edition-read, body-laid}
+use Rattle.bodywise.proofs.Told.{edition-read, body-laid}
+use Rattle.files.proofs.Files.{goodIn}
 
 module _ (l : List ℕ) where
   -- contents that are right are right in front of whatever is tested behind them

@@ -1,3 +1,4 @@
+pub mod Chosen
 pub mod Files
 pub mod Froms
 pub mod InnerLookups

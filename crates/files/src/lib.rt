@@ -10,7 +10,6 @@ mod lookup;
 use access::Words;
 use bodies::is_range;
 use contents::FileAnswer;
-use contents::contents_length;
 use contents::count;
 use contents::edition;
 use contents::entry_or;
@@ -71,15 +70,13 @@ fn false_range(file: &[u8]) -> usize
     ensures { λ r. ⌜ r ≡ badRange (now (file .entry)) ⌝ }
 {
     let n = count(file);
-    let mut at = contents_length(file);
-    let mut i = 0;
-    while i < n {
-        if !is_true_from(file, i, at) {
-            return i;
+    let mut body = bodywise::first(file);
+    while body.number < n {
+        if !is_true_from(file, body.number, body.at) {
+            return body.number;
         }
-        let e = entry_or(file, i);
-        at += e.length as usize;
-        i += 1;
+        let next = bodywise::next(file, body);
+        body = next;
     }
     n
 }
@@ -122,17 +119,15 @@ fn first_bad_but(file: &[u8], b: usize) -> usize
     ensures { λ r. ⌜ r ≡ firstBad (countIn (now (file .entry))) (λ i. either (eqb i b) (hasGoodRuns (entryOf (now (file .entry)) i) (bodyOf (now (file .entry)) i))) ⌝ }
 {
     let n = count(file);
-    let mut at = contents_length(file);
-    let mut i = 0;
-    while i < n {
-        if i != b {
-            if !is_good_from(file, i, at) {
-                return i;
+    let mut body = bodywise::first(file);
+    while body.number < n {
+        if body.number != b {
+            if !is_good_from(file, body.number, body.at) {
+                return body.number;
             }
         }
-        let e = entry_or(file, i);
-        at += e.length as usize;
-        i += 1;
+        let next = bodywise::next(file, body);
+        body = next;
     }
     n
 }
@@ -183,14 +178,12 @@ fn body_start(file: &[u8], b: usize) -> usize
     requires { ⌜ b < countIn (now file) ⌝ }
     ensures { λ r. ⌜ r ≡ bodyStart (now (file .entry)) b ⌝ }
 {
-    let mut at = contents_length(file);
-    let mut i = 0;
-    while i < b {
-        let e = entry_or(file, i);
-        at += e.length as usize;
-        i += 1;
+    let mut body = bodywise::first(file);
+    while body.number < b {
+        let next = bodywise::next(file, body);
+        body = next;
     }
-    at
+    body.at
 }
 
 // Lays block b of the file down.

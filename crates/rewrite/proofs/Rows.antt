@@ -1,21 +1,20 @@
 -- The new file is the writer's for the rows of the old one. The rows of an accepted file of bytes, as the writer takes them: whole blocks, at most 256, each
--- of which is laid down from its body. And where the next body begins, in the old file and in the new one.
+-- of which is laid down from its body. And where the next body of the new file begins.
 -- Assumes nothing.
 use mathlib.Core.List.{List}
-use mathlib.Core.Path.{_≡_, refl, sym, ap, ap₂, _∙_}
+use mathlib.Core.Path.{_≡_, refl, ap, _∙_}
 use Prim.Native.Nat.{ℕ, _+_, _*_, _≤_, _<_}
 use native.Mathlib.Numerals.{add-one}
 use native.Mathlib.Omega.{arith}
 use lib.ListN.{length, replicate}
 use Rattle.places.specs.Numbers.{Elements}
-use Rattle.contents.specs.declared.Entry.{Entry}
 use Rattle.contents.specs.declared.FileAnswer.the-variants.{Done}
 use Rattle.contents.specs.Answers.{fileAnswer}
-use Rattle.contents.specs.Contents.{count, contentsSize, entryOr, bodyStart, contentsTests}
+use Rattle.contents.specs.Contents.{count, contentsSize, bodyStart, contentsTests}
 use Rattle.candidates.specs.Candidates.{chosen}
 use Rattle.files.specs.Files.{blockIn, rowsOf, fileTests}
 use Rattle.files.specs.Froms.{fromLeaves}
-use Rattle.files.proofs.Files.{whole, entry-read, body-ends, next-start}
+use Rattle.bodywise.proofs.Told.{whole}
 use Rattle.files.proofs.Froms.{from-block}
 use Rattle.files.proofs.Ranges.{contents-right, runs-good, file-runs, file-block}
 use Rattle.files.proofs.Rows.{rows-count, rows-block}
@@ -50,13 +49,6 @@ module _ (l : List ℕ) (done : fileAnswer (fileTests l) ≡ Done) where
   -- The new file has this length.
   pub length-new : length (newFile l) ≡ contentsSize 2 (count l) + length (bodiesFor (rowsOf l) (count l))
   length-new = length-file (rowsOf l) ∙ ap (λ n. contentsSize 2 n + length (bodiesFor (rowsOf l) n)) rows-blocks
-
-  -- The next body of the old file begins behind this one, within the file.
-  pub next-from : (i : ℕ) {from : ℕ} {e : Entry} → i < count l → from ≡ bodyStart l i → e ≡ entryOr l i
-      → (from + e .length ≡ bodyStart l (i + 1)) × (from + e .length ≤ length l)
-  next-from i {from} {e} h start read =
-      let next = ap₂ _+_ start (ap (λ e. e .length) (read ∙ entry-read l right i h)) in
-      (next ∙ sym (ap (bodyStart l) (add-one i) ∙ next-start l right i), omega (arith, next, body-ends l right i h))
 
   module _ (bytes : Elements 8 l) (i : ℕ) (h : i < count l) where
     -- A block has 1,024 numbers,

@@ -5,9 +5,7 @@
 use candidates::entry_for;
 use candidates::lay_block;
 use contents::FileAnswer;
-use contents::contents_length;
 use contents::count;
-use contents::entry_or;
 use contents::put_entry;
 use contents::put_head;
 use files::block_from;
@@ -51,13 +49,11 @@ fn new_size(file: &[u8]) -> usize
 {
     let n = count(file);
     let mut size = 4 + n * 32;
-    let mut from = contents_length(file);
-    let mut i = 0;
-    while i < n {
-        size += body_size(file, i, from);
-        let e = entry_or(file, i);
-        from += e.length as usize;
-        i += 1;
+    let mut body = bodywise::first(file);
+    while body.number < n {
+        size += body_size(file, body.number, body.at);
+        let next = bodywise::next(file, body);
+        body = next;
     }
     size
 }
@@ -94,13 +90,11 @@ fn lay_blocks(file: &[u8], output: &mut [u8])
 {
     let n = count(file);
     let mut at = 4 + n * 32;
-    let mut from = contents_length(file);
-    let mut i = 0;
-    while i < n {
-        at += lay_one(file, i, from, at, output);
-        let e = entry_or(file, i);
-        from += e.length as usize;
-        i += 1;
+    let mut body = bodywise::first(file);
+    while body.number < n {
+        at += lay_one(file, body.number, body.at, at, output);
+        let next = bodywise::next(file, body);
+        body = next;
     }
 }
 

@@ -22,8 +22,10 @@ use Rattle.contents.proofs.Answers.{passed, stopped, none-left, in-front-done, 
 use Rattle.contents.proofs.First.{first-only, first-le}
 use Rattle.bodies.specs.Ranges.{isRange}
 use Rattle.files.specs.Files.{blockIn, hasTrueRange}
+use Rattle.search.specs.declared.Found.{Found}
 use Rattle.search.specs.declared.Found.the-variants.{Rows, Refused}
-use Rattle.search.specs.InnerBlocks.{asked, badIn, inBlock}
+use Rattle.search.specs.InnerBlocks.{asked, badIn}
+use Rattle.search.specs.Steps.{inBlock}
 use Rattle.search.specs.Passing.{passing}
 use Rattle.search.specs.Search.{opens, opened, found, badRunsIn, badRangeIn, openedTests, searchTests, foundOf, searchLeaves}
 use Rattle.search.proofs.Blocks.{in-long}
@@ -35,6 +37,18 @@ use Rattle.search.proofs.Walks.{foundTo, found-length, found-shut, foun
 nothing : (x : List ℕ) → length x ≡ 0 → x ≡ []
 nothing [] e = refl
 nothing (v ∷ x) e = absurd (omega arith)
+
+-- What a call gives and leaves by its answer: the refusal, and what was there before,
+pub given-refused : (x : Found) (new old : List ℕ) {a b : FileAnswer} → a ≡ b → (numberOf b ≡ 0 → ⊥)
+    → (pick (isDone a) x (Refused a) ≡ Refused b) × (left a new old ≡ old)
+given-refused x new old {a} {b} e n = (
+  ap (λ a. pick (isDone a) x (Refused a)) e ∙ ap (λ t. pick t x (Refused b)) (ne-eqb (numberOf b) 0 n),
+  ap (λ a. left a new old) e ∙ left-refused b new old n,
+)
+
+-- or what was found.
+pub given-done : (x : Found) (new old : List ℕ) {a : FileAnswer} → a ≡ Done → (pick (isDone a) x (Refused a) ≡ x) × (left a new old ≡ new)
+given-done x new old e = (ap (λ a. pick (isDone a) x (Refused a)) e, ap (λ a. left a new old) e)
 
 module _ (l : List ℕ) (low high : ℕ) where
   -- The lowest bad block of each sort is the one that a walk finds.
@@ -145,19 +159,13 @@ module _ (l : List ℕ) (low high : ℕ) where
     pub search-refused : (a : FileAnswer) → fileAnswer (searchTests l low high rows) ≡ a → (numberOf a ≡ 0 → ⊥)
         → (foundOf l low high rows ≡ Refused a) × (searchLeaves l low high rows ≡ rows)
     unfolding foundOf searchLeaves
-    search-refused a e n = (
-      ap (λ a. pick (isDone a) (Rows (length (found l low high)) (length (opened l low high))) (Refused a)) e ∙ simp (ne-eqb (numberOf a) 0 n),
-      ap (λ a. left a (over 0 (found l low high) rows) rows) e ∙ left-refused a (over 0 (found l low high) rows) rows n,
-    )
+    search-refused a e n = given-refused (Rows (length (found l low high)) (length (opened l low high))) (over 0 (found l low high) rows) rows e n
 
     -- One that is done gives how many rows and blocks, and leaves the rows.
     pub search-done : fileAnswer (searchTests l low high rows) ≡ Done
         → (foundOf l low high rows ≡ Rows (length (found l low high)) (length (opened l low high))) × (searchLeaves l low high rows ≡ over 0 (found l low high) rows)
     unfolding foundOf searchLeaves
-    search-done e = (
-      ap (λ a. pick (isDone a) (Rows (length (found l low high)) (length (opened l low high))) (Refused a)) e,
-      ap (λ a. left a (over 0 (found l low high) rows) rows) e,
-    )
+    search-done e = given-done (Rows (length (found l low high)) (length (opened l low high))) (over 0 (found l low high) rows) rows e
 
     -- The tests are made in their order.
     pub contents-first : (fileAnswer (contentsTests l (length l)) ≡ Done → ⊥) → fileAnswer (searchTests l low high rows) ≡ fileAnswer (contentsTests l (length l))

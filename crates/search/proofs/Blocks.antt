@@ -4,6 +4,7 @@ use mathlib.Core.Bool.{Bool, true, false}
 use mathlib.Core.List.{List}
 use mathlib.Core.Path.{_≡_, sym, ap, _∙_}
 use Prim.Native.Nat.{ℕ, _+_, _*_, _-_, _/_, _%_, _≤_, _<_}
+use native.Mathlib.Nat.{zero-add}
 use native.Mathlib.Omega.{arith}
 use lib.Dec.{eqb}
 use lib.ListN.{length, getD}
@@ -16,11 +17,18 @@ use Rattle.contents.specs.declared.Entry.{Entry}
 use Rattle.bodies.specs.Bodies.{blockOf}
 use Rattle.files.specs.Files.{blockIn, rowAt}
 use Rattle.search.specs.Search.{between, opens, listed}
-use Rattle.search.specs.InnerBlocks.{inBlock}
+use Rattle.search.specs.Steps.{inBlock, foundIn}
+use Rattle.search.proofs.Passing.{passing-shift}
 
 -- Row `first` + j of a block is its value j.
 pub in-block : (block : List ℕ) (first low high j : ℕ) → inBlock block first low high (first + j) ≡ between low high (getD block j 0)
 in-block block first low high j = let e : first + j - first ≡ j = omega arith in ap (λ n. between low high (getD block n 0)) e
+
+-- How many rows are found does not depend on where the block begins.
+pub found-shift : (block : List ℕ) (first low high : ℕ) → length (foundIn block first low high) ≡ length (foundIn block 0 low high)
+found-shift block first low high =
+    passing-shift first (length block) (inBlock block first low high) (inBlock block 0 low high)
+    (λ j _. in-block block first low high j ∙ sym (ap (inBlock block 0 low high) (sym (zero-add j)) ∙ in-block block 0 low high j))
 
 -- Whatever a body holds, its block has 1,024 values.
 picked-long : (b : Bool) (x y : List ℕ) → length x ≡ 1024 → length y ≡ 1024 → length (pick b x y) ≡ 1024

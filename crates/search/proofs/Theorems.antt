@@ -21,7 +21,7 @@ use Rattle.contents.specs.Answers.{fileAnswer, isDone, left, numberOf}
 use Rattle.contents.specs.Contents.{edition, count, rangeOf}
 use Rattle.contents.proofs.Answers.{says-answer}
 use Rattle.files.specs.Files.{blockIn, rowCount, rowAt, fileTests}
-use Rattle.files.proofs.Files.{whole}
+use Rattle.bodywise.proofs.Told.{whole}
 use Rattle.files.proofs.Ranges.{contents-right, file-runs, file-spans}
 use Rattle.search.specs.declared.Found.{Found}
 use Rattle.search.specs.declared.Found.the-variants.{Rows, Refused}

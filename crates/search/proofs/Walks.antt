@@ -6,16 +6,21 @@ use mathlib.Core.Path.{_≡_, sym, ap, ap₂, _∙_}
 use Prim.Native.Nat.{ℕ, _+_, _*_, _≤_, _<_}
 use native.Mathlib.Nat.{zero-add}
 use native.Mathlib.Omega.{arith}
+use lib.Dec.{eqb}
 use lib.ListN.{length, length-append}
-use Rattle.places.specs.Pick.{pick}
+use Rattle.places.specs.Pick.{pick, either}
 use Rattle.places.specs.Tab.{over}
 use Rattle.places.proofs.Overs.{over-append}
-use Rattle.contents.specs.Contents.{count}
+use Rattle.contents.specs.declared.FileAnswer.the-variants.{Done}
+use Rattle.contents.specs.Answers.{fileAnswer}
+use Rattle.contents.specs.Contents.{count, contentsTests}
 use Rattle.contents.proofs.First.{first-before}
+use Rattle.bodywise.proofs.Fronts.{Front, whole-front}
 use Rattle.files.specs.Files.{blockIn, rowCount}
-use Rattle.search.specs.InnerBlocks.{asked, badIn, inBlock, foundIn}
+use Rattle.search.specs.InnerBlocks.{asked, badIn}
+use Rattle.search.specs.Steps.{opensBy, inBlock, foundIn}
 use Rattle.search.specs.Passing.{passing}
-use Rattle.search.specs.Search.{opens, listed, found}
+use Rattle.search.specs.Search.{meets, opens, listed, found}
 use Rattle.search.proofs.Blocks.{in-long, listed-in, not-listed}
 use Rattle.search.proofs.Listing.{pass-mono}
 use Rattle.search.proofs.Passing.{passing-split, passing-ext, passing-nothing}
@@ -23,6 +28,16 @@ use Rattle.search.proofs.Passing.{passing-split, passing-ext, passing-n
 -- These are the rows that are found in the blocks below i.
 abbrev pub foundTo : (l : List ℕ) (low high i : ℕ) → List ℕ
 foundTo l low high i = passing 0 (i * 1024) (listed l low high)
+
+module _ (l : List ℕ) (low high : ℕ) (done : fileAnswer (contentsTests l (length l)) ≡ Done) (i : ℕ) (h : i < count l) where
+  -- A front that tells of the contents what the file does tells which blocks are opened,
+  pub front-opens : {front : List ℕ} → Front l front → opensBy front low high i ≡ opens l low high i
+  unfolding opensBy opens
+  front-opens held = ap₂ (λ e r. either (eqb e 1) (meets r low high)) (held .edition-is done) (held .range-is done i h)
+
+  -- and the whole file is its own front.
+  pub file-opens : opensBy l low high i ≡ opens l low high i
+  file-opens = front-opens (whole-front l)
 
 module _ (l : List ℕ) (low high : ℕ) where
   -- Where no opened block is bad, each is as asked.

@@ -2,4 +2,5 @@ pub mod InnerBlocks
 pub mod Passing
 pub mod Plain
 pub mod Search
+pub mod Steps
 pub mod Unopened

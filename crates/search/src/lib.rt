@@ -4,12 +4,13 @@
 //
 // Whether there is room is known before the first row is written, so a refused search writes nothing. Where the room would do
 // for every row of the opened blocks, nothing is counted for that, and each of them is laid down once for its rows.
+//
+// A program that does not hold the file makes the same search by steps: `opens` says by the contents which bodies to read, and
+// `rows_in` lists the rows of one block.
 use contents::FileAnswer;
 use contents::Range;
-use contents::contents_length;
 use contents::count;
 use contents::edition;
-use contents::entry_or;
 use contents::range_or;
 use files::block_from;
 use files::is_good_from;
@@ -24,8 +25,9 @@ ghost use Rattle.contents.specs.Answers.{fileAnswer};
 ghost use Rattle.contents.specs.Contents.{edition as editionIn, count as countIn, bodyStart, contentsTests};
 ghost use mathlib.Core.Bool.{true, false};
 ghost use Rattle.files.specs.Files.{blockIn};
-ghost use Rattle.search.specs.Search.{between, meets as meetsIn, opens as opensIn, opened, found, openedTests, foundOf, searchLeaves, answerOf, rowsFound, blocksOpened};
-ghost use Rattle.search.specs.InnerBlocks.{asked, badIn, foundIn};
+ghost use Rattle.search.specs.Search.{between, meets as meetsIn, opened, found, openedTests, foundOf, searchLeaves, answerOf, rowsFound, blocksOpened};
+ghost use Rattle.search.specs.InnerBlocks.{asked, badIn};
+ghost use Rattle.search.specs.Steps.{opensBy, foundIn, listedOf, listedLeaves};
 
 // How many rows were listed and how many blocks were opened for them, or the refusal.
 pub enum Found {
@@ -105,28 +107,16 @@ fn lies(v: u64, low: u64, high: u64) -> bool
     (low <= v) & (v <= high)
 }
 
-// Whether block i is opened, in a file whose contents are right.
-fn opens(file: &[u8], i: usize, low: u64, high: u64) -> bool
-    requires { ⌜ fileAnswer (contentsTests (now file) (length (now file))) ≡ Done ⌝ }
-    requires { ⌜ i < countIn (now file) ⌝ }
-    ensures { λ r. ⌜ r ≡ opensIn (now (file .entry)) low high i ⌝ }
+// Whether block i is opened, by the contents alone: a program that holds no more of the file reads the bodies of these blocks, and
+// of no other. An entry that is not there says no range, so its block is opened where the bounds have a number between them.
+pub fn opens(front: &[u8], i: usize, low: u64, high: u64) -> bool
+    ensures { λ r. ⌜ r ≡ opensBy (now (front .entry)) low high i ⌝ }
 {
-    let edition = edition(file);
+    let edition = edition(front);
     if edition == 1 {
         return true;
     }
-    meets(range_or(file, i), low, high)
-}
-
-// Where the next body begins, in a file whose contents are right and whose body i begins at `at`.
-fn next_start(file: &[u8], i: usize, at: usize) -> usize
-    requires { ⌜ fileAnswer (contentsTests (now file) (length (now file))) ≡ Done ⌝ }
-    requires { ⌜ i < countIn (now file) ⌝ }
-    requires { ⌜ at ≡ bodyStart (now file) i ⌝ }
-    ensures { λ r. ⌜ r ≡ bodyStart (now (file .entry)) (i + 1) ⌝ }
-{
-    let e = entry_or(file, i);
-    at + e.length as usize
+    meets(range_or(front, i), low, high)
 }
 
 // How many blocks are opened, in a file whose contents are right.
@@ -175,16 +165,15 @@ fn lowest_bad(file: &[u8], low: u64, high: u64, ranges: bool) -> usize
     ensures { λ r. ⌜ r ≡ badIn (now (file .entry)) low high ranges ⌝ }
 {
     let n = count(file);
-    let mut at = contents_length(file);
-    let mut i = 0;
-    while i < n {
-        if opens(file, i, low, high) {
-            if !is_as_asked(file, i, at, ranges) {
-                return i;
+    let mut body = bodywise::first(file);
+    while body.number < n {
+        if opens(file, body.number, low, high) {
+            if !is_as_asked(file, body.number, body.at, ranges) {
+                return body.number;
             }
         }
-        at = next_start(file, i, at);
-        i += 1;
+        let next = bodywise::next(file, body);
+        body = next;
     }
     n
 }
@@ -223,15 +212,14 @@ fn count_rows(file: &[u8], low: u64, high: u64) -> usize
     ensures { λ r. ⌜ r ≡ length (found (now (file .entry)) low high) ⌝ }
 {
     let n = count(file);
-    let mut at = contents_length(file);
+    let mut body = bodywise::first(file);
     let mut sum = 0;
-    let mut i = 0;
-    while i < n {
-        if opens(file, i, low, high) {
-            sum += count_from(file, i, at, low, high);
+    while body.number < n {
+        if opens(file, body.number, low, high) {
+            sum += count_from(file, body.number, body.at, low, high);
         }
-        at = next_start(file, i, at);
-        i += 1;
+        let next = bodywise::next(file, body);
+        body = next;
     }
     sum
 }
@@ -245,17 +233,47 @@ fn list_rows(file: &[u8], low: u64, high: u64, rows: &mut [u64]) -> usize
     ensures { λ _. ⌜ now (rows .exit) ≡ over 0 (found (now (file .entry)) low high) (now (rows .entry)) ⌝ }
 {
     let n = count(file);
-    let mut at = contents_length(file);
+    let mut body = bodywise::first(file);
     let mut k = 0;
-    let mut i = 0;
-    while i < n {
-        if opens(file, i, low, high) {
-            k = list_from(file, i, at, low, high, k, rows);
+    while body.number < n {
+        if opens(file, body.number, low, high) {
+            k = list_from(file, body.number, body.at, low, high, k, rows);
         }
-        at = next_start(file, i, at);
-        i += 1;
+        let next = bodywise::next(file, body);
+        body = next;
     }
     k
+}
+
+// Lists the rows of block i, which was laid down, whose value lies between the bounds: for a program that does not hold the file, and
+// has the block from bodywise. No file has block 256 or a higher one, so such a number is refused. The answer is how many rows
+// they are, and one opened block: these add up to the answer of the search.
+pub fn rows_in(block: &[u64], i: usize, low: u64, high: u64, rows: &mut [u64]) -> Found
+    ensures { λ r. ⌜ r ≡ listedOf (now (block .entry)) i low high (now (rows .entry)) ⌝ }
+    ensures { λ _. ⌜ now (rows .exit) ≡ listedLeaves (now (block .entry)) i low high (now (rows .entry)) ⌝ }
+{
+    if block.len() != 1024 {
+        return Found::Refused(FileAnswer::Block);
+    }
+    if 256 <= i {
+        return Found::Refused(FileAnswer::Beyond);
+    }
+    if !block_fits(block, low, high, rows.len()) {
+        return Found::Refused(FileAnswer::Room);
+    }
+    let n = list_block(block, i * 1024, low, high, 0, rows);
+    Found::Rows(n, 1)
+}
+
+// Whether there is room for the rows of a block. It has at most 1,024, and where that many fit nothing is counted.
+fn block_fits(block: &[u64], low: u64, high: u64, room: usize) -> bool
+    requires { ⌜ length (now block) ≡ 1024 ⌝ }
+    ensures { λ r. ⌜ r ≡ leb (length (foundIn (now (block .entry)) 0 low high)) room ⌝ }
+{
+    if 1024 <= room {
+        return true;
+    }
+    count_block(block, low, high) <= room
 }
 
 // How many rows are found in block i, whose body begins at `at`.

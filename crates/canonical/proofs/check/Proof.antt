@@ -9,7 +9,7 @@ use Rattle.contents.specs.Answers.{fileAnswer, numberOf}
 use Rattle.contents.specs.Contents.{edition, count}
 use Rattle.contents.proofs.Answers.{number-done}
 use Rattle.files.specs.Files.{fileTests}
-use Rattle.files.proofs.Files.{edition-read, count-read}
+use Rattle.bodywise.proofs.Told.{edition-read, count-read}
 use Rattle.rewrite.proofs.Rows.{right}
 use Rattle.canonical.proofs.Calls.{foreign-le, not-read, not-second, is-foreign, none-foreign}
 use Rattle.canonical.proofs.check.Statement.{statement}

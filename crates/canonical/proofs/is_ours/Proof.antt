@@ -18,7 +18,8 @@ use Rattle.candidates.specs.Candidates.{chosen, bodyFor}
 use Rattle.candidates.proofs.Calls.{laid-there}
 use Rattle.candidates.proofs.Choice.{body-sized, chosen-short}
 use Rattle.files.specs.Files.{bodyOf, blockIn}
-use Rattle.files.proofs.Files.{entry-read, body-long}
+use Rattle.bodywise.proofs.Told.{entry-read}
+use Rattle.files.proofs.Files.{body-long}
 use Rattle.files.proofs.Froms.{body-from-is}
 use Rattle.rewrite.proofs.Rows.{right, block-long, block-laid}
 use Rattle.canonical.specs.Canonical.{isSameEntry, isSame, isOurs}

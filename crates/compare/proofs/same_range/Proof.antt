@@ -6,7 +6,7 @@ use lib.Dec.{eqb}
 use borrow.Author.Needs.{needs}
 use Rattle.places.specs.Pick.{both}
 use Rattle.contents.specs.Contents.{editionOr}
-use Rattle.compare.specs.Steps.{sameRange}
+use Rattle.compare.specs.Ranges.{sameRange}
 use Rattle.compare.proofs.same_range.Statement.{statement}
 use Rattle.compare.proofs.same_range.Tie as tie
 

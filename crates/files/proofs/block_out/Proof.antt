@@ -12,7 +12,7 @@ use Rattle.contents.specs.Contents.{count, contentsTests}
 use Rattle.contents.proofs.Answers.{left-refused}
 use Rattle.files.specs.Files.{blockIn, badRange, fileTests, blockTests, blockLeaves}
 use Rattle.files.proofs.Calls.{bad-output, block-refused, block-beyond, file-done, block-decides, block-leaves}
-use Rattle.files.proofs.Files.{count-read}
+use Rattle.bodywise.proofs.Told.{count-read}
 use Rattle.files.proofs.Others.{badBut}
 use Rattle.files.proofs.block_out.Statement.{statement}
 use Rattle.files.proofs.block_out.Tie as tie

@@ -13,7 +13,8 @@ use Rattle.contents.specs.Answers.{good-runs, fileAnswer, numberOf}
 use Rattle.contents.specs.Contents.{count, contentsTests}
 use Rattle.contents.proofs.Answers.{in-front-refused, number-done}
 use Rattle.files.specs.Files.{badRuns}
-use Rattle.files.proofs.Files.{goodIn, count-read}
+use Rattle.bodywise.proofs.Told.{count-read}
+use Rattle.files.proofs.Files.{goodIn}
 use Rattle.files.proofs.Others.{but-le, other-bad, asked-bad}
 use Rattle.files.proofs.Froms.{good-from-is}
 use Rattle.files.proofs.check_but.Statement.{statement}

@@ -7,7 +7,7 @@ use borrow.Author.Needs.{needs}
 use Rattle.contents.specs.declared.FileAnswer.the-variants.{Done}
 use Rattle.contents.specs.Answers.{fileAnswer}
 use Rattle.contents.specs.Contents.{contentsTests}
-use Rattle.files.proofs.Files.{count-read, edition-read}
+use Rattle.bodywise.proofs.Told.{count-read, edition-read}
 use Rattle.files.proofs.Ranges.{contents-right, other-ranges, ranges-done, range-at}
 use Rattle.files.proofs.check_ranges.Statement.{statement}
 use Rattle.files.proofs.check_ranges.Tie as tie

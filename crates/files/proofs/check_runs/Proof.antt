@@ -7,7 +7,7 @@ use denote.Ref.{now}
 use borrow.Author.Needs.{needs}
 use Rattle.contents.specs.Answers.{numberOf}
 use Rattle.contents.proofs.Answers.{number-done}
-use Rattle.files.proofs.Files.{count-read}
+use Rattle.bodywise.proofs.Told.{count-read}
 use Rattle.files.proofs.Others.{none-bad}
 use Rattle.files.proofs.check_runs.Statement.{statement}
 use Rattle.files.proofs.check_runs.Tie as tie

@@ -1,66 +1,64 @@
--- `files::false_range` meets its contract. The loop's invariant: `at` is where body i begins, and every block passed has its true range.
+-- `files::false_range` meets its contract: every block that the walk has passed has its true range.
 -- Assumes nothing.
 use mathlib.Core.Bool.{true}
-use mathlib.Core.Path.{_≡_, sym, ap, ap₂, _∙_}
-use Prim.Native.Nat.{ℕ, _+_, _-_, _≤_, _<_, zero-le}
-use native.Mathlib.Numerals.{add-one}
+use mathlib.Core.Path.{_≡_, sym, _∙_}
+use Prim.Native.Nat.{ℕ, _+_, _-_, _<_}
 use native.Mathlib.Omega.{arith}
 use denote.Ref.{now}
 use lib.ListN.{length}
-use borrow.Author.Count.{below-none, below-more}
 use borrow.Author.Needs.{needs}
 use borrow.Author.Tests.{not-true, not-false}
 use Rattle.contents.specs.declared.FileAnswer.the-variants.{Done}
 use Rattle.contents.specs.Answers.{fileAnswer}
-use Rattle.contents.specs.Contents.{count, entryOf, bodyStart, contentsTests}
+use Rattle.contents.specs.Contents.{count, contentsTests}
 use Rattle.contents.proofs.First.{first-only}
 use Rattle.files.specs.Files.{hasTrueRange, badRange}
-use Rattle.files.proofs.Files.{count-read, length-read, entry-read, body-ends, next-start}
+use Rattle.bodywise.proofs.Told.{count-read}
+use Rattle.bodywise.proofs.Walking.{Walking, file-first, file-none, file-number, file-next, file-passed}
 use Rattle.files.proofs.Froms.{true-from-is}
 use Rattle.files.proofs.Ranges.{contents-right, runs-good}
 use Rattle.files.proofs.false_range.Statement.{statement}
 use Rattle.files.proofs.false_range.Tie as tie
 
 abbrev Inv-loop : tie.InvT-loop
-Inv-loop file n at₀ i₀ at i =
-    (i ≤ n) × (n ≡ count file) × (at ≡ bodyStart file i) × ((k : ℕ) → k < i → hasTrueRange file k ≡ true)
+Inv-loop file n body₀ body = Walking file body × (n ≡ count file) × ((k : ℕ) → k < body .number → hasTrueRange file k ≡ true)
 
 abbrev μ-loop : tie.MeasureT-loop
-μ-loop file n at₀ i₀ at i = n - i
+μ-loop file n body₀ body = n - body .number
 
 -- the contents are right
 right : (c : tie.Start Inv-loop μ-loop) → fileAnswer (contentsTests (now (c .args .file)) (length (now (c .args .file)))) ≡ Done
 right c = contents-right (now (c .args .file)) (c .pre .0)
 
--- the entry that was read is that of block i
-entry-is : (c : tie.After-entry-or Inv-loop μ-loop) → c .entry-or .result ≡ entryOf (now (c .before .before .before .before .before .before .before .before .args .file)) (c .before .before .before .before .loop .i)
-entry-is c =
-    let at-loop = c .before .before .before .before in
-    let start = at-loop .before .before .before .before in
-    c .entry-or .ensures ∙ entry-read (now (start .args .file)) (right start) (at-loop .loop .i) (omega arith)
-
--- what was asked of the body that begins at `at` is asked of block i
-tested-is : (c : tie.After-is-true-from Inv-loop μ-loop) → c .is-true-from .result ≡ hasTrueRange (now (c .before .before .before .before .before .before .args .file)) (c .before .before .loop .i)
+-- what was asked of the body of the walk is asked of its block
+tested-is : (c : tie.After-is-true-from Inv-loop μ-loop) → c .is-true-from .result ≡ hasTrueRange (now (c .before .before .before .before .before .before .before .args .file)) (c .before .before .before .loop .body .number)
 tested-is c =
-    let at-loop = c .before .before in
+    let at-loop = c .before .before .before in
     let start = at-loop .before .before .before .before in
     let l = now (start .args .file) in
-    let i = at-loop .loop .i in
-    let there : i < count l = omega arith in
+    let body = at-loop .loop .body in
+    let there : body .number < count l = omega (arith, at-loop .loop .inv .1) in
     c .is-true-from .ensures
-    ∙ true-from-is l (right start) i there (at-loop .loop .at) (at-loop .loop .inv .2) (start .pre .1) (runs-good l (start .pre .0) i there)
+    ∙ true-from-is l (right start) (body .number) there (body .at) (at-loop .loop .inv .0 .start) (start .pre .1) (runs-good l (start .pre .0) (body .number) there)
+
+-- one body further
+next-number : (c : tie.After-next Inv-loop μ-loop) → c .next .result .number ≡ c .before .before .before .before .before .loop .body .number + 1
+next-number c =
+    let at-loop = c .before .before .before .before .before in
+    let start = at-loop .before .before .before .before in
+    file-number (now (start .args .file)) (right start) (omega arith) (at-loop .loop .inv .0) (omega (arith, at-loop .loop .inv .1)) (c .next .ensures)
 
 count-requires : tie.Need-count-requires Inv-loop μ-loop
 count-requires c κs = search needs
 
-contents-length-requires : tie.Need-contents-length-requires Inv-loop μ-loop
-contents-length-requires c κs = search needs
+first-requires : tie.Need-first-requires Inv-loop μ-loop
+first-requires c κs = search needs
 
 loop-holds : tie.Need-loop-holds Inv-loop μ-loop
 loop-holds c =
     let start = c .before .before .before in
     let l = now (start .args .file) in
-    (zero-le, c .before .count .ensures ∙ count-read l (right start), c .contents-length .ensures ∙ length-read l (right start), below-none _)
+    (file-first l (right start) (c .first .ensures), c .before .count .ensures ∙ count-read l (right start), file-none l (right start) (c .first .ensures) _)
 
 is-true-from-requires : tie.Need-is-true-from-requires Inv-loop μ-loop
 is-true-from-requires c κs = search needs
@@ -69,52 +67,38 @@ returns : tie.Need-returns Inv-loop μ-loop
 unfolding badRange
 returns c =
     let tested = c .before in
-    let at-loop = tested .before .before in
+    let at-loop = tested .before .before .before in
     let l = now (at-loop .before .before .before .before .args .file) in
-    first-only (count l) (at-loop .loop .i) (hasTrueRange l) (omega arith) (at-loop .loop .inv .3)
-    (λ _. sym (tested-is tested) ∙ not-true _ (c .if1 .taken))
+    first-only (count l) (at-loop .loop .body .number) (hasTrueRange l) (at-loop .loop .inv .0 .within) (at-loop .loop .inv .2)
+    (λ _. sym (tested-is tested) ∙ not-true _ (c .if2 .taken))
 
-entry-or-requires : tie.Need-entry-or-requires Inv-loop μ-loop
-entry-or-requires c κs = search needs
-
-cast-at : tie.Need-cast-at Inv-loop μ-loop
-cast-at c = search needs
-
-add-at : tie.Need-add-at Inv-loop μ-loop
-add-at c =
-    let got = c .before in
-    let at-loop = got .before .before .before .before in
-    let start = at-loop .before .before .before .before in
-    omega (arith, body-ends (now (start .args .file)) (right start) (at-loop .loop .i) (omega arith), ap (λ e. e .length) (entry-is got), at-loop .loop .inv .2)
-
-add-i : tie.Need-add-i Inv-loop μ-loop
-add-i c = search needs
+next-requires : tie.Need-next-requires Inv-loop μ-loop
+next-requires c κs = search needs
 
 loop-less : tie.Need-loop-less Inv-loop μ-loop
-loop-less c = search needs
+loop-less c = omega (arith, next-number c)
 
 loop-again : tie.Need-loop-again Inv-loop μ-loop
 loop-again c =
-    let got = c .before in
-    let passed = got .before in
-    let at-loop = passed .before .before .before in
+    let passed = c .before in
+    let at-loop = passed .before .before .before .before in
     let start = at-loop .before .before .before .before in
     let l = now (start .args .file) in
-    let i = at-loop .loop .i in (
-      omega arith,
+    let walk = at-loop .loop .inv .0 in
+    let more : at-loop .loop .body .number < count l = omega (arith, at-loop .loop .inv .1) in (
+      file-next l (right start) (omega arith) walk more (c .next .ensures),
       at-loop .loop .inv .1,
-      ap₂ _+_ (at-loop .loop .inv .2) (ap (λ e. e .length) (entry-is got)) ∙ sym (ap (bodyStart l) (add-one i) ∙ next-start l (right start) i),
-      below-more _ _ (at-loop .loop .inv .3) (sym (tested-is (passed .before)) ∙ not-false _ (passed .if1 .left)),
+      file-passed l (right start) (omega arith) walk more (c .next .ensures) (at-loop .loop .inv .2) (sym (tested-is (passed .before)) ∙ not-false _ (passed .if2 .left)),
     )
 
 returns-2 : tie.Need-returns-2 Inv-loop μ-loop
 unfolding badRange
 returns-2 c =
-    let at-loop = c .before in
+    let at-loop = c .before .before in
     let l = now (at-loop .before .before .before .before .args .file) in
-    let all : at-loop .loop .i ≡ count l = omega (arith, at-loop .loop .inv .0, at-loop .loop .inv .1) in
+    let all : at-loop .loop .body .number ≡ count l = omega (arith, at-loop .loop .inv .0 .within, at-loop .loop .inv .1) in
     at-loop .loop .inv .1
-    ∙ first-only (count l) (count l) (hasTrueRange l) (omega arith) (λ k h. at-loop .loop .inv .3 k (omega arith)) (λ h. absurd (omega arith))
+    ∙ first-only (count l) (count l) (hasTrueRange l) (omega arith) (λ k h. at-loop .loop .inv .2 k (omega arith)) (λ h. absurd (omega arith))
 
 pub false-range-spec : {M : Type 1} → statement M
 false-range-spec =
@@ -123,14 +107,11 @@ false-range-spec =
     Inv-loop
     μ-loop
     count-requires
-    contents-length-requires
+    first-requires
     loop-holds
     is-true-from-requires
     returns
-    entry-or-requires
-    cast-at
-    add-at
-    add-i
+    next-requires
     loop-less
     loop-again
     returns-2)

@@ -1,70 +1,69 @@
--- `files::first_bad_but` meets its contract. The loop's invariant: `at` is where body i begins, and every block passed is block b or has its run
--- indices in range.
+-- `files::first_bad_but` meets its contract: every block that the walk has passed is block b or has its run indices in range.
 -- Assumes nothing.
 use mathlib.Core.Bool.{true}
 use mathlib.Core.Logic.{⊎-elim}
-use mathlib.Core.Path.{_≡_, sym, ap, ap₂, _∙_}
-use Prim.Native.Nat.{ℕ, _+_, _-_, _≤_, _<_, zero-le}
-use native.Mathlib.Numerals.{add-one}
+use mathlib.Core.Path.{_≡_, sym, ap, _∙_}
+use Prim.Native.Nat.{ℕ, _+_, _-_, _<_}
 use native.Mathlib.Omega.{arith}
 use denote.Ref.{now}
 use lib.Dec.{eqb}
-use borrow.Author.Count.{below-none, below-more}
 use borrow.Author.Needs.{needs}
 use borrow.Author.Tests.{eq-eqb, ne-eqb, not-true, not-false}
 use Rattle.places.specs.Pick.{either}
-use Rattle.contents.specs.Contents.{count, entryOf, bodyStart}
+use Rattle.contents.specs.Contents.{count}
 use Rattle.contents.proofs.First.{first-only}
-use Rattle.files.proofs.Files.{goodIn, count-read, length-read, entry-read, body-ends, next-start}
+use Rattle.bodywise.proofs.Told.{count-read}
+use Rattle.bodywise.proofs.Walking.{Walking, file-first, file-none, file-number, file-next, file-passed}
+use Rattle.files.proofs.Files.{goodIn}
 use Rattle.files.proofs.Froms.{good-from-is}
 use Rattle.files.proofs.first_bad_but.Statement.{statement}
 use Rattle.files.proofs.first_bad_but.Tie as tie
 
 abbrev Inv-loop : tie.InvT-loop
-Inv-loop file b n at₀ i₀ at i =
-    (i ≤ n) × (n ≡ count file) × (at ≡ bodyStart file i) × ((k : ℕ) → k < i → either (eqb k b) (goodIn file k) ≡ true)
+Inv-loop file b n body₀ body = Walking file body × (n ≡ count file) × ((k : ℕ) → k < body .number → either (eqb k b) (goodIn file k) ≡ true)
 
 abbrev μ-loop : tie.MeasureT-loop
-μ-loop file b n at₀ i₀ at i = n - i
+μ-loop file b n body₀ body = n - body .number
 
--- the entry that was read is that of block i
-entry-is : (c : tie.After-entry-or Inv-loop μ-loop) → c .entry-or .result ≡ entryOf (now (c .before .before .before .before .before .before .before .args .file)) (c .before .before .before .loop .i)
-entry-is c =
-    let at-loop = c .before .before .before in
-    let start = at-loop .before .before .before .before in
-    c .entry-or .ensures ∙ entry-read (now (start .args .file)) (start .pre) (at-loop .loop .i) (omega arith)
-
--- what was asked of the body that begins at `at` is asked of block i
-tested-is : (c : tie.After-is-good-from Inv-loop μ-loop) → c .is-good-from .result ≡ goodIn (now (c .before .before .before .before .before .before .before .args .file)) (c .before .before .before .loop .i)
+-- what was asked of the body of the walk is asked of its block
+tested-is : (c : tie.After-is-good-from Inv-loop μ-loop) → c .is-good-from .result ≡ goodIn (now (c .before .before .before .before .before .before .before .before .before .args .file)) (c .before .before .before .before .before .loop .body .number)
 tested-is c =
-    let at-loop = c .before .before .before in
+    let at-loop = c .before .before .before .before .before in
     let start = at-loop .before .before .before .before in
+    let body = at-loop .loop .body in
     c .is-good-from .ensures
-    ∙ good-from-is (now (start .args .file)) (start .pre) (at-loop .loop .i) (omega arith) (at-loop .loop .at) (at-loop .loop .inv .2)
+    ∙ good-from-is (now (start .args .file)) (start .pre) (body .number) (omega (arith, at-loop .loop .inv .1)) (body .at) (at-loop .loop .inv .0 .start)
 
--- block i is block b, or its body was found good
-passed-over : (c : tie.Joined1 Inv-loop μ-loop) → either (eqb (c .before .before .loop .i) (c .before .before .before .before .before .before .args .b)) (goodIn (now (c .before .before .before .before .before .before .args .file)) (c .before .before .loop .i)) ≡ true
+-- the block is block b, or its body was found good
+passed-over : (c : tie.Joined2 Inv-loop μ-loop) → either (eqb (c .before .before .before .before .loop .body .number) (c .before .before .before .before .before .before .before .before .args .b)) (goodIn (now (c .before .before .before .before .before .before .before .before .args .file)) (c .before .before .before .before .loop .body .number)) ≡ true
 passed-over c =
-    let at-loop = c .before .before in
+    let at-loop = c .before .before .before .before in
     let start = at-loop .before .before .before .before in
-    let i = at-loop .loop .i in
+    let i = at-loop .loop .body .number in
     let good = goodIn (now (start .args .file)) i in
     ⊎-elim
-    (λ w. ap (λ t. either t good) (ne-eqb i (start .args .b) (w .0 .taken)) ∙ sym (tested-is (record { before = record { before = c .before; if1 = w .0 }; is-good-from = w .1 })) ∙ not-false _ (w .2 .left))
+    (λ w. ap (λ t. either t good) (ne-eqb i (start .args .b) (w .0 .taken)) ∙ sym (tested-is (record { before = record { before = c .before; if2 = w .0 }; is-good-from = w .1 })) ∙ not-false _ (w .2 .left))
     (λ w. ap (λ t. either t good) (eq-eqb i (start .args .b) (w .left)))
-    (c .if1 .came)
+    (c .if2 .came)
+
+-- one body further
+next-number : (c : tie.After-next Inv-loop μ-loop) → c .next .result .number ≡ c .before .before .before .before .before .loop .body .number + 1
+next-number c =
+    let at-loop = c .before .before .before .before .before in
+    let start = at-loop .before .before .before .before in
+    file-number (now (start .args .file)) (start .pre) (omega arith) (at-loop .loop .inv .0) (omega (arith, at-loop .loop .inv .1)) (c .next .ensures)
 
 count-requires : tie.Need-count-requires Inv-loop μ-loop
 count-requires c κs = search needs
 
-contents-length-requires : tie.Need-contents-length-requires Inv-loop μ-loop
-contents-length-requires c κs = search needs
+first-requires : tie.Need-first-requires Inv-loop μ-loop
+first-requires c κs = search needs
 
 loop-holds : tie.Need-loop-holds Inv-loop μ-loop
 loop-holds c =
     let start = c .before .before .before in
     let l = now (start .args .file) in
-    (zero-le, c .before .count .ensures ∙ count-read l (start .pre), c .contents-length .ensures ∙ length-read l (start .pre), below-none _)
+    (file-first l (start .pre) (c .first .ensures), c .before .count .ensures ∙ count-read l (start .pre), file-none l (start .pre) (c .first .ensures) _)
 
 is-good-from-requires : tie.Need-is-good-from-requires Inv-loop μ-loop
 is-good-from-requires c κs = search needs
@@ -72,54 +71,41 @@ is-good-from-requires c κs = search needs
 returns : tie.Need-returns Inv-loop μ-loop
 returns c =
     let tested = c .before in
-    let at-loop = tested .before .before .before in
+    let at-loop = tested .before .before .before .before .before in
     let start = at-loop .before .before .before .before in
     let l = now (start .args .file) in
     let b = start .args .b in
-    let i = at-loop .loop .i in
-    first-only (count l) i (λ k. either (eqb k b) (goodIn l k)) (omega arith) (at-loop .loop .inv .3)
-    (λ _. ap (λ t. either t (goodIn l i)) (ne-eqb i b (tested .before .if1 .taken)) ∙ sym (tested-is tested) ∙ not-true _ (c .if2 .taken))
+    let i = at-loop .loop .body .number in
+    first-only (count l) i (λ k. either (eqb k b) (goodIn l k)) (at-loop .loop .inv .0 .within) (at-loop .loop .inv .2)
+    (λ _. ap (λ t. either t (goodIn l i)) (ne-eqb i b (tested .before .if2 .taken)) ∙ sym (tested-is tested) ∙ not-true _ (c .if3 .taken))
 
-entry-or-requires : tie.Need-entry-or-requires Inv-loop μ-loop
-entry-or-requires c κs = search needs
-
-cast-at : tie.Need-cast-at Inv-loop μ-loop
-cast-at c = search needs
-
-add-at : tie.Need-add-at Inv-loop μ-loop
-add-at c =
-    let got = c .before in
-    let at-loop = got .before .before .before in
-    let start = at-loop .before .before .before .before in
-    omega (arith, body-ends (now (start .args .file)) (start .pre) (at-loop .loop .i) (omega arith), ap (λ e. e .length) (entry-is got), at-loop .loop .inv .2)
-
-add-i : tie.Need-add-i Inv-loop μ-loop
-add-i c = search needs
+next-requires : tie.Need-next-requires Inv-loop μ-loop
+next-requires c κs = search needs
 
 loop-less : tie.Need-loop-less Inv-loop μ-loop
-loop-less c = search needs
+loop-less c = omega (arith, next-number c)
 
 loop-again : tie.Need-loop-again Inv-loop μ-loop
 loop-again c =
-    let got = c .before in
-    let at-loop = got .before .before .before in
+    let joined = c .before in
+    let at-loop = joined .before .before .before .before in
     let start = at-loop .before .before .before .before in
     let l = now (start .args .file) in
-    let i = at-loop .loop .i in (
-      omega arith,
+    let walk = at-loop .loop .inv .0 in
+    let more : at-loop .loop .body .number < count l = omega (arith, at-loop .loop .inv .1) in (
+      file-next l (start .pre) (omega arith) walk more (c .next .ensures),
       at-loop .loop .inv .1,
-      ap₂ _+_ (at-loop .loop .inv .2) (ap (λ e. e .length) (entry-is got)) ∙ sym (ap (bodyStart l) (add-one i) ∙ next-start l (start .pre) i),
-      below-more _ _ (at-loop .loop .inv .3) (passed-over (got .before)),
+      file-passed l (start .pre) (omega arith) walk more (c .next .ensures) (at-loop .loop .inv .2) (passed-over joined),
     )
 
 returns-2 : tie.Need-returns-2 Inv-loop μ-loop
 returns-2 c =
-    let at-loop = c .before in
+    let at-loop = c .before .before in
     let start = at-loop .before .before .before .before in
     let l = now (start .args .file) in
-    let all : at-loop .loop .i ≡ count l = omega (arith, at-loop .loop .inv .0, at-loop .loop .inv .1) in
+    let all : at-loop .loop .body .number ≡ count l = omega (arith, at-loop .loop .inv .0 .within, at-loop .loop .inv .1) in
     at-loop .loop .inv .1
-    ∙ first-only (count l) (count l) (λ k. either (eqb k (start .args .b)) (goodIn l k)) (omega arith) (λ k h. at-loop .loop .inv .3 k (omega arith))
+    ∙ first-only (count l) (count l) (λ k. either (eqb k (start .args .b)) (goodIn l k)) (omega arith) (λ k h. at-loop .loop .inv .2 k (omega arith))
     (λ h. absurd (omega arith))
 
 pub first-bad-but-spec : {M : Type 1} → statement M
@@ -129,14 +115,11 @@ first-bad-but-spec =
     Inv-loop
     μ-loop
     count-requires
-    contents-length-requires
+    first-requires
     loop-holds
     is-good-from-requires
     returns
-    entry-or-requires
-    cast-at
-    add-at
-    add-i
+    next-requires
     loop-less
     loop-again
     returns-2)

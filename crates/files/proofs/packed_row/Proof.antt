@@ -16,7 +16,8 @@ use Rattle.bodies.proofs.Bodies.{laid-plain}
 use Rattle.bodies.proofs.Blocks.{packed-value}
 use Rattle.files.specs.declared.Row.the-variants.{Counted}
 use Rattle.files.specs.Files.{bodyOf, blockIn}
-use Rattle.files.proofs.Files.{entry-read, body-laid, body-long}
+use Rattle.bodywise.proofs.Told.{entry-read, body-laid}
+use Rattle.files.proofs.Files.{body-long}
 use Rattle.files.proofs.Froms.{body-from-is}
 use Rattle.files.proofs.packed_row.Statement.{statement}
 use Rattle.files.proofs.packed_row.Tie as tie

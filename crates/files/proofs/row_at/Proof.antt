@@ -19,7 +19,8 @@ use Rattle.files.specs.declared.Row.the-variants.{Counted, Uncounted, Re
 use Rattle.files.specs.Files.{bodyOf, badRange, fileTests, rowAt}
 use Rattle.files.specs.Rows.{given, rowOf}
 use Rattle.files.proofs.Calls.{block-refused, block-beyond, file-done, row-as-block, row-refused, row-decides}
-use Rattle.files.proofs.Files.{goodIn, count-read, entry-read}
+use Rattle.bodywise.proofs.Told.{count-read, entry-read}
+use Rattle.files.proofs.Files.{goodIn}
 use Rattle.files.proofs.Others.{badBut}
 use Rattle.files.proofs.row_at.Statement.{statement}
 use Rattle.files.proofs.row_at.Tie as tie

@@ -1,5 +1,4 @@
--- `rewrite::lay_blocks` meets its contract: after each block the output holds the entries and the bodies up to there, and `from` is where the next old
--- body begins.
+-- `rewrite::lay_blocks` meets its contract: after each body of the walk the output holds the entries and the bodies up to there.
 -- Assumes nothing.
 use mathlib.Core.List.{_++_}
 use mathlib.Core.Path.{_≡_, sym, ap, _∙_}
@@ -11,26 +10,26 @@ use lib.ListN.{length}
 use borrow.Author.Needs.{needs}
 use Rattle.places.specs.Numbers.{Elements}
 use Rattle.places.specs.Tab.{over}
-use Rattle.contents.specs.Contents.{count, entrySize, contentsSize, bodyStart}
+use Rattle.contents.specs.Contents.{count, entrySize, contentsSize}
 use Rattle.candidates.specs.Candidates.{bodyFor}
 use Rattle.files.specs.Files.{blockIn, rowsOf}
-use Rattle.files.proofs.Files.{count-read, length-read}
+use Rattle.bodywise.proofs.Told.{count-read}
+use Rattle.bodywise.proofs.Walking.{Walking, file-first, file-zero, file-number, file-next}
 use Rattle.writer.specs.Writer.{entriesFor, bodiesFor}
 use Rattle.writer.proofs.Laying.{writtenEntry, bodies-none, bodies-short, bodies-within, laidTo, laid-none, laid-next, laid-length, laid-all}
-use Rattle.rewrite.proofs.Rows.{right, few, length-new, next-from, block-at, body-next}
+use Rattle.rewrite.proofs.Rows.{right, few, length-new, block-at, body-next}
 use Rattle.rewrite.proofs.lay_blocks.Statement.{statement}
 use Rattle.rewrite.proofs.lay_blocks.Tie as tie
 
 abbrev Inv-loop : tie.InvT-loop
-Inv-loop file output₀ n at₀ from₀ i₀ output at from i =
-    (i ≤ n)
+Inv-loop file output₀ n at₀ body₀ output at body =
+    Walking file body
     × (n ≡ count file)
-    × (at ≡ contentsSize 2 n + length (bodiesFor (rowsOf file) i))
-    × (from ≡ bodyStart file i)
-    × (output ≡ laidTo (rowsOf file) n i output₀)
+    × (at ≡ contentsSize 2 n + length (bodiesFor (rowsOf file) (body .number)))
+    × (output ≡ laidTo (rowsOf file) n (body .number) output₀)
 
 abbrev μ-loop : tie.MeasureT-loop
-μ-loop file output₀ n at₀ from₀ i₀ output at from i = n - i
+μ-loop file output₀ n at₀ body₀ output at body = n - body .number
 
 -- the count that was read, and that it is small
 count-is : (c : tie.After-count Inv-loop μ-loop) → c .count .result ≡ count (now (c .before .before .before .args .file))
@@ -56,126 +55,120 @@ mul-at c = omega (arith, few-are c)
 add-at : tie.Need-add-at Inv-loop μ-loop
 add-at c = omega (arith, few-are c)
 
-contents-length-requires : tie.Need-contents-length-requires Inv-loop μ-loop
-contents-length-requires c κs = search needs
+first-requires : tie.Need-first-requires Inv-loop μ-loop
+first-requires c κs = search needs
 
 loop-holds : tie.Need-loop-holds Inv-loop μ-loop
 unfolding contentsSize entrySize
 loop-holds c =
     let start = c .before .before .before .before in
-    let l = now (start .args .file) in (
-      omega arith,
+    let l = now (start .args .file) in
+    let n = c .before .count .result in
+    let zero = file-zero l (right l (start .pre .0)) (c .first .ensures) in (
+      file-first l (right l (start .pre .0)) (c .first .ensures),
       count-is (c .before),
-      omega (arith, ap length (bodies-none (rowsOf l))),
-      c .contents-length .ensures ∙ length-read l (right l (start .pre .0)),
-      laid-none (rowsOf l) (c .before .count .result) (now (start .args .output)),
+      omega (arith, ap (λ i. length (bodiesFor (rowsOf l) i)) zero, ap length (bodies-none (rowsOf l))),
+      laid-none (rowsOf l) n (now (start .args .output)) ∙ ap (λ i. laidTo (rowsOf l) n i (now (start .args .output))) (sym zero),
     )
 
 lay-one-requires : tie.Need-lay-one-requires Inv-loop μ-loop
 unfolding contentsSize entrySize
 lay-one-requires c κs =
-    let at-loop = c .before .before in
+    let at-loop = c .before .before .before in
     let read = at-loop .before .before in
     let known = read .before .before in
     let start = known .before in
     let l = now (start .args .file) in
     let n = read .count .result in
     let loop = at-loop .loop in
+    let i = loop .body .number in
     let bytes : Elements 8 l = λ k. omega (arith, known .shared-slice-known .given k) in
-    let there : loop .i < count l = omega arith in
-    let same = ap length (loop .inv .4) ∙ laid-length (rowsOf l) n (now (start .args .output)) (room read) (loop .i) (loop .inv .0) in
-    let within = bodies-within (rowsOf l) (loop .i + 1) n (omega arith) in
-    (start .pre .0, (there, (loop .inv .3, (omega arith, omega (arith, same, room read, within, body-next l (start .pre .0) bytes (loop .i) there)))))
+    let there : i < count l = omega (arith, loop .inv .1) in
+    let same = ap length (loop .inv .3) ∙ laid-length (rowsOf l) n (now (start .args .output)) (room read) i (omega arith) in
+    let within = bodies-within (rowsOf l) (i + 1) n (omega arith) in
+    (start .pre .0, (there, (loop .inv .0 .start, (omega (arith, loop .inv .2), omega (arith, loop .inv .2, same, room read, within, body-next l (start .pre .0) bytes i there)))))
 
 -- one body more
-grown : (c : tie.After-lay-one Inv-loop μ-loop) → c .before .before .before .loop .at + c .lay-one .result
-    ≡ contentsSize 2 (c .before .before .before .before .before .count .result)
-    + length (bodiesFor (rowsOf (now (c .before .before .before .before .before .before .before .before .args .file))) (c .before .before .before .loop .i + 1))
+grown : (c : tie.After-lay-one Inv-loop μ-loop) → c .before .before .before .before .loop .at + c .lay-one .result
+    ≡ contentsSize 2 (c .before .before .before .before .before .before .count .result)
+    + length (bodiesFor (rowsOf (now (c .before .before .before .before .before .before .before .before .before .args .file))) (c .before .before .before .before .loop .body .number + 1))
 grown c =
-    let at-loop = c .before .before .before in
+    let at-loop = c .before .before .before .before in
     let known = at-loop .before .before .before .before in
     let start = known .before in
     let l = now (start .args .file) in
     let loop = at-loop .loop in
     let bytes : Elements 8 l = λ k. omega (arith, known .shared-slice-known .given k) in
-    omega (arith, loop .inv, c .lay-one .ensures .0, body-next l (start .pre .0) bytes (loop .i) (omega arith))
+    omega (arith, loop .inv .2, c .lay-one .ensures .0, body-next l (start .pre .0) bytes (loop .body .number) (omega (arith, loop .inv .1)))
 
 add-at-2 : tie.Need-add-at-2 Inv-loop μ-loop
 unfolding contentsSize entrySize
 add-at-2 c =
     let one = c .before .before in
-    let at-loop = one .before .before .before in
+    let at-loop = one .before .before .before .before in
     let read = at-loop .before .before in
     let l = now (read .before .before .before .args .file) in
-    omega (arith, grown one, few-are read, bodies-short (rowsOf l) (at-loop .loop .i + 1), at-loop .loop .inv .0)
+    omega (arith, grown one, few-are read, bodies-short (rowsOf l) (at-loop .loop .body .number + 1), at-loop .loop .inv .0 .within, at-loop .loop .inv .1)
 
-entry-or-requires : tie.Need-entry-or-requires Inv-loop μ-loop
-entry-or-requires c κs = search needs
+next-requires : tie.Need-next-requires Inv-loop μ-loop
+next-requires c κs = search needs
 
--- where the next old body begins
-next : (c : tie.After-struct-known Inv-loop μ-loop) → (c .before .before .before .before .before .before .before .loop .from + c .before .entry-or .result .length
-    ≡ bodyStart (now (c .before .before .before .before .before .before .before .before .before .before .before .before .args .file)) (c .before .before .before .before .before .before .before .loop .i + 1))
-    × (c .before .before .before .before .before .before .before .loop .from + c .before .entry-or .result .length
-    ≤ length (now (c .before .before .before .before .before .before .before .before .before .before .before .before .args .file)))
-next c =
+-- one body further
+next-number : (c : tie.After-next Inv-loop μ-loop) → c .next .result .number ≡ c .before .before .before .before .before .before .before .loop .body .number + 1
+next-number c =
     let at-loop = c .before .before .before .before .before .before .before in
     let start = at-loop .before .before .before .before .before in
-    next-from (now (start .args .file)) (start .pre .0) (at-loop .loop .i) (omega arith) (at-loop .loop .inv .3) (c .before .entry-or .ensures)
-
-cast-from : tie.Need-cast-from Inv-loop μ-loop
-cast-from c = search needs
-
-add-from : tie.Need-add-from Inv-loop μ-loop
-add-from c = omega (arith, next c)
-
-add-i : tie.Need-add-i Inv-loop μ-loop
-add-i c = search needs
+    let l = now (start .args .file) in
+    file-number l (right l (start .pre .0)) (omega arith) (at-loop .loop .inv .0) (omega (arith, at-loop .loop .inv .1)) (c .next .ensures)
 
 loop-less : tie.Need-loop-less Inv-loop μ-loop
-loop-less c = search needs
+loop-less c = omega (arith, next-number c)
 
 loop-again : tie.Need-loop-again Inv-loop μ-loop
 loop-again c =
-    let one = c .before .before .before .before in
-    let at-loop = one .before .before .before in
+    let one = c .before .before .before in
+    let at-loop = one .before .before .before .before in
     let read = at-loop .before .before in
     let known = read .before .before in
     let start = known .before in
     let l = now (start .args .file) in
     let n = read .count .result in
     let loop = at-loop .loop in
+    let i = loop .body .number in
     let old = now (start .args .output) in
+    let there : i < count l = omega (arith, loop .inv .1) in
     let bytes : Elements 8 l = λ k. omega (arith, known .shared-slice-known .given k) in
-    let block = block-at l (start .pre .0) bytes (loop .i) (omega arith) in (
-      omega arith,
+    let block = block-at l (start .pre .0) bytes i there in (
+      file-next l (right l (start .pre .0)) (omega arith) (loop .inv .0) there (c .next .ensures),
       loop .inv .1,
-      grown one,
-      next c .0,
+      grown one ∙ ap (λ k. contentsSize 2 n + length (bodiesFor (rowsOf l) k)) (sym (next-number c)),
       one .lay-one .ensures .1
-          ∙ ap (λ x. over (contentsSize 2 (loop .i)) (writtenEntry (blockIn l (loop .i))) (over (loop .at) (bodyFor (blockIn l (loop .i))) x)) (loop .inv .4)
-          ∙ ap (λ b. over (contentsSize 2 (loop .i)) (writtenEntry b) (over (loop .at) (bodyFor b) (laidTo (rowsOf l) n (loop .i) old))) (sym block)
-          ∙ laid-next (rowsOf l) n old (room read) (loop .i) (loop .at) (omega arith) (loop .inv .2)
-          ∙ ap (λ k. laidTo (rowsOf l) n k old) (sym (add-one (loop .i))),
+          ∙ ap (λ x. over (contentsSize 2 i) (writtenEntry (blockIn l i)) (over (loop .at) (bodyFor (blockIn l i)) x)) (loop .inv .3)
+          ∙ ap (λ b. over (contentsSize 2 i) (writtenEntry b) (over (loop .at) (bodyFor b) (laidTo (rowsOf l) n i old))) (sym block)
+          ∙ laid-next (rowsOf l) n old (room read) i (loop .at) (omega arith) (loop .inv .2)
+          ∙ ap (λ k. laidTo (rowsOf l) n k old) (sym (next-number c ∙ add-one i)),
     )
 
 same-length : tie.Need-same-length Inv-loop μ-loop
 same-length c =
-    let read = c .before .before .before in
+    let at-loop = c .before .before in
+    let read = at-loop .before .before in
     let start = read .before .before .before in
     let l = now (start .args .file) in
-    let loop = c .before .loop in
-    ap length (loop .inv .4) ∙ laid-length (rowsOf l) (read .count .result) (now (start .args .output)) (room read) (loop .i) (loop .inv .0)
+    let loop = at-loop .loop in
+    ap length (loop .inv .3) ∙ laid-length (rowsOf l) (read .count .result) (now (start .args .output)) (room read) (loop .body .number) (omega (arith, loop .inv .0 .within, loop .inv .1))
 
 returns : tie.Need-returns Inv-loop μ-loop
 returns c =
-    let read = c .before .before .before in
+    let at-loop = c .before .before in
+    let read = at-loop .before .before in
     let start = read .before .before .before in
     let l = now (start .args .file) in
-    let loop = c .before .loop in
+    let loop = at-loop .loop in
     let old = now (start .args .output) in
     let n = read .count .result in
-    let all : loop .i ≡ n = omega arith in
-    loop .inv .4
+    let all : loop .body .number ≡ n = omega (arith, loop .inv .0 .within, loop .inv .1) in
+    loop .inv .3
     ∙ ap (λ k. laidTo (rowsOf l) n k old) all
     ∙ laid-all (rowsOf l) n old (room read)
     ∙ ap (λ k. over 4 (entriesFor (rowsOf l) k ++ bodiesFor (rowsOf l) k) old) (count-is read)
@@ -189,14 +182,11 @@ lay-blocks-spec =
     count-requires
     mul-at
     add-at
-    contents-length-requires
+    first-requires
     loop-holds
     lay-one-requires
     add-at-2
-    entry-or-requires
-    cast-from
-    add-from
-    add-i
+    next-requires
     loop-less
     loop-again
     same-length

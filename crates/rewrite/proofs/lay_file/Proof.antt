@@ -10,7 +10,7 @@ use Rattle.contents.specs.Bytes.{headBytes, headLeaves}
 use Rattle.contents.specs.Contents.{count, entrySize, contentsSize}
 use Rattle.contents.proofs.Bytes.{head-fits}
 use Rattle.files.specs.Files.{rowsOf}
-use Rattle.files.proofs.Files.{count-read}
+use Rattle.bodywise.proofs.Told.{count-read}
 use Rattle.writer.specs.Writer.{entriesFor, bodiesFor}
 use Rattle.writer.proofs.Laying.{file-laid}
 use Rattle.rewrite.proofs.Rows.{right, few, rows-blocks, length-new}

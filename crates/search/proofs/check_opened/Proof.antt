@@ -8,7 +8,7 @@ use denote.Ref.{now}
 use borrow.Author.Needs.{needs}
 use Rattle.places.proofs.Tests.{false-true}
 use Rattle.contents.specs.Contents.{edition, count}
-use Rattle.files.proofs.Files.{whole, count-read, edition-read}
+use Rattle.bodywise.proofs.Told.{whole, count-read, edition-read}
 use Rattle.search.specs.InnerBlocks.{badIn}
 use Rattle.search.proofs.Answers.{bad-le, opened-runs, opened-range, opened-done, first-edition}
 use Rattle.search.proofs.check_opened.Statement.{statement}

@@ -7,7 +7,7 @@ use native.Mathlib.Omega.{arith}
 use denote.Ref.{now}
 use lib.ListN.{length}
 use borrow.Author.Needs.{needs}
-use Rattle.search.specs.InnerBlocks.{inBlock}
+use Rattle.search.specs.Steps.{inBlock}
 use Rattle.search.specs.Passing.{passing}
 use Rattle.search.proofs.Blocks.{in-block}
 use Rattle.search.proofs.Listing.{more-pass, same-pass}

@@ -2,15 +2,13 @@
 -- Assumes nothing.
 use mathlib.Core.Path.{refl, sym, ap, _∙_}
 use Prim.Native.Nat.{_*_}
-use native.Mathlib.Nat.{zero-add}
 use denote.Ref.{now}
 use lib.ListN.{length, replicate}
 use borrow.Author.Needs.{needs}
 use Rattle.files.specs.Files.{blockIn}
 use Rattle.files.proofs.Froms.{from-block}
-use Rattle.search.specs.InnerBlocks.{inBlock, foundIn}
-use Rattle.search.proofs.Blocks.{in-block}
-use Rattle.search.proofs.Passing.{passing-shift}
+use Rattle.search.specs.Steps.{foundIn}
+use Rattle.search.proofs.Blocks.{found-shift}
 use Rattle.search.proofs.count_from.Statement.{statement}
 use Rattle.search.proofs.count_from.Tie as tie
 
@@ -34,13 +32,10 @@ returns c =
     let i = start .args .i in
     let low = start .args .low in
     let high = start .args .high in
-    let block = blockIn l i in
     c .count-block .ensures
     ∙ ap (λ b. length (foundIn b 0 low high))
     (laid .block-from .ensures .1 ∙ from-block l (start .pre .0) i (start .pre .1 .0) (start .args .at) (start .pre .1 .1 .0) (replicate 1024 0) refl (start .pre .1 .1 .1))
-    ∙ sym
-    (passing-shift (i * 1024) (length block) (inBlock block (i * 1024) low high) (inBlock block 0 low high)
-    (λ j _. in-block block (i * 1024) low high j ∙ sym (ap (inBlock block 0 low high) (sym (zero-add j)) ∙ in-block block 0 low high j)))
+    ∙ sym (found-shift (blockIn l i) (i * 1024) low high)
 
 pub count-from-spec : {M : Type 1} → statement M
 count-from-spec =

@@ -9,11 +9,12 @@ use denote.Ref.{now}
 use lib.ListN.{length}
 use borrow.Author.Needs.{needs}
 use Rattle.contents.specs.Contents.{count}
-use Rattle.files.proofs.Files.{count-read}
+use Rattle.bodywise.proofs.Told.{count-read}
 use Rattle.search.specs.Passing.{passing}
 use Rattle.search.specs.Search.{opens, opened}
 use Rattle.search.proofs.Listing.{more-pass, same-pass}
 use Rattle.search.proofs.Passing.{passing-none-yet, passing-length}
+use Rattle.search.proofs.Walks.{file-opens}
 use Rattle.search.proofs.count_opened.Statement.{statement}
 use Rattle.search.proofs.count_opened.Tie as tie
 
@@ -27,8 +28,13 @@ abbrev μ-loop : tie.MeasureT-loop
 tested-is : (c : tie.After-opens Inv-loop μ-loop) → c .opens .result ≡ opens (now (c .before .before .before .before .before .args .file)) (c .before .before .before .before .before .args .low) (c .before .before .before .before .before .args .high) (0 + c .before .before .loop .i)
 tested-is c =
     let at-loop = c .before .before in
-    let args = at-loop .before .before .before .args in
-    c .opens .ensures ∙ sym (ap (opens (now (args .file)) (args .low) (args .high)) (zero-add (at-loop .loop .i)))
+    let start = at-loop .before .before .before in
+    let l = now (start .args .file) in
+    let low = start .args .low in
+    let high = start .args .high in
+    c .opens .ensures
+    ∙ file-opens l low high (start .pre) (at-loop .loop .i) (omega (arith, at-loop .loop .inv .1))
+    ∙ sym (ap (opens l low high) (zero-add (at-loop .loop .i)))
 
 count-requires : tie.Need-count-requires Inv-loop μ-loop
 count-requires c κs = search needs
@@ -39,7 +45,7 @@ loop-holds c =
     (omega arith, c .count .ensures ∙ count-read (now (start .args .file)) (start .pre), sym (ap length (passing-none-yet 0 _)))
 
 opens-requires : tie.Need-opens-requires Inv-loop μ-loop
-opens-requires c κs = let at-loop = c .before in (at-loop .before .before .before .pre, omega arith)
+opens-requires c κs = search needs
 
 add-k : tie.Need-add-k Inv-loop μ-loop
 add-k c =

@@ -7,7 +7,7 @@ use lib.Dec.{leb}
 use lib.ListN.{length}
 use borrow.Author.Needs.{needs}
 use borrow.Author.Tests.{le-leb}
-use Rattle.files.proofs.Files.{whole}
+use Rattle.bodywise.proofs.Told.{whole}
 use Rattle.search.specs.Search.{found}
 use Rattle.search.proofs.Answers.{few-rows, few-opened}
 use Rattle.search.proofs.has_room.Statement.{statement}

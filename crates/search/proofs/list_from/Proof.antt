@@ -8,9 +8,9 @@ use lib.ListN.{length, replicate}
 use borrow.Author.Needs.{needs}
 use Rattle.places.specs.Tab.{over}
 use Rattle.files.specs.Files.{blockIn}
-use Rattle.files.proofs.Files.{whole}
+use Rattle.bodywise.proofs.Told.{whole}
 use Rattle.files.proofs.Froms.{from-block}
-use Rattle.search.specs.InnerBlocks.{foundIn}
+use Rattle.search.specs.Steps.{foundIn}
 use Rattle.search.proofs.Blocks.{in-long}
 use Rattle.search.proofs.list_from.Statement.{statement}
 use Rattle.search.proofs.list_from.Tie as tie

@@ -1,70 +1,85 @@
--- `search::lowest_bad` meets its contract. The loop's invariant: `at` is where body i begins, and every opened block passed is as asked.
+-- `search::lowest_bad` meets its contract: every opened block that the walk has passed is as asked.
 -- Assumes nothing.
 use mathlib.Core.Bool.{true, false}
 use mathlib.Core.Logic.{⊎-elim}
 use mathlib.Core.Path.{_≡_, sym, ap, _∙_}
-use Prim.Native.Nat.{ℕ, _-_, _≤_, _<_}
+use Prim.Native.Nat.{ℕ, _+_, _-_, _<_}
 use native.Mathlib.Omega.{arith}
 use denote.Ref.{now}
-use borrow.Author.Count.{below-none, below-more}
 use borrow.Author.Needs.{needs}
 use borrow.Author.Tests.{not-true, not-false}
 use Rattle.places.specs.Pick.{pick}
-use Rattle.contents.specs.Contents.{count, bodyStart}
+use Rattle.contents.specs.Contents.{count}
 use Rattle.contents.proofs.First.{first-only}
-use Rattle.files.proofs.Files.{count-read, length-read}
+use Rattle.bodywise.proofs.Told.{count-read}
+use Rattle.bodywise.proofs.Walking.{Walking, file-first, file-none, file-number, file-next, file-passed}
 use Rattle.search.specs.InnerBlocks.{asked}
 use Rattle.search.specs.Search.{opens}
-use Rattle.search.proofs.Walks.{opened-asked}
+use Rattle.search.proofs.Walks.{file-opens, opened-asked}
 use Rattle.search.proofs.lowest_bad.Statement.{statement}
 use Rattle.search.proofs.lowest_bad.Tie as tie
 
 abbrev Inv-loop : tie.InvT-loop
-Inv-loop file low high ranges n at₀ i₀ at i =
-    (i ≤ n) × (n ≡ count file) × (at ≡ bodyStart file i) × ((k : ℕ) → k < i → pick (opens file low high k) (asked file ranges k) true ≡ true)
+Inv-loop file low high ranges n body₀ body =
+    Walking file body × (n ≡ count file) × ((k : ℕ) → k < body .number → pick (opens file low high k) (asked file ranges k) true ≡ true)
 
 abbrev μ-loop : tie.MeasureT-loop
-μ-loop file low high ranges n at₀ i₀ at i = n - i
+μ-loop file low high ranges n body₀ body = n - body .number
 
--- block i is not opened, or is as asked
-passed-over : (c : tie.Joined1 Inv-loop μ-loop) → pick (opens (now (c .before .before .before .before .before .before .before .args .file)) (c .before .before .before .before .before .before .before .args .low) (c .before .before .before .before .before .before .before .args .high) (c .before .before .before .loop .i)) (asked (now (c .before .before .before .before .before .before .before .args .file)) (c .before .before .before .before .before .before .before .args .ranges) (c .before .before .before .loop .i)) true ≡ true
-passed-over c =
+-- what was asked of the contents
+opened-is : (c : tie.After-opens Inv-loop μ-loop) → c .opens .result ≡ opens (now (c .before .before .before .before .before .before .before .args .file)) (c .before .before .before .before .before .before .before .args .low) (c .before .before .before .before .before .before .before .args .high) (c .before .before .before .loop .body .number)
+opened-is c =
     let at-loop = c .before .before .before in
+    let start = at-loop .before .before .before .before in
+    c .opens .ensures ∙ file-opens (now (start .args .file)) (start .args .low) (start .args .high) (start .pre .0) (at-loop .loop .body .number) (omega (arith, at-loop .loop .inv .1))
+
+-- the block is not opened, or is as asked
+passed-over : (c : tie.Joined2 Inv-loop μ-loop) → pick (opens (now (c .before .before .before .before .before .before .before .before .args .file)) (c .before .before .before .before .before .before .before .before .args .low) (c .before .before .before .before .before .before .before .before .args .high) (c .before .before .before .before .loop .body .number)) (asked (now (c .before .before .before .before .before .before .before .before .args .file)) (c .before .before .before .before .before .before .before .before .args .ranges) (c .before .before .before .before .loop .body .number)) true ≡ true
+passed-over c =
+    let at-loop = c .before .before .before .before in
     let args = at-loop .before .before .before .before .args in
-    let is = asked (now (args .file)) (args .ranges) (at-loop .loop .i) in
+    let is = asked (now (args .file)) (args .ranges) (at-loop .loop .body .number) in
     ⊎-elim
-    (λ w. ap (λ t. pick t is true) (sym (c .before .opens .ensures) ∙ w .0 .taken) ∙ sym (w .1 .ensures) ∙ not-false _ (w .2 .left))
-    (λ w. ap (λ t. pick t is true) (sym (c .before .opens .ensures) ∙ w .left))
-    (c .if1 .came)
+    (λ w. ap (λ t. pick t is true) (sym (opened-is (c .before)) ∙ w .0 .taken) ∙ sym (w .1 .ensures) ∙ not-false _ (w .2 .left))
+    (λ w. ap (λ t. pick t is true) (sym (opened-is (c .before)) ∙ w .left))
+    (c .if2 .came)
+
+-- one body further
+next-number : (c : tie.After-next Inv-loop μ-loop) → c .next .result .number ≡ c .before .before .before .before .before .loop .body .number + 1
+next-number c =
+    let at-loop = c .before .before .before .before .before in
+    let start = at-loop .before .before .before .before in
+    file-number (now (start .args .file)) (start .pre .0) (omega arith) (at-loop .loop .inv .0) (omega (arith, at-loop .loop .inv .1)) (c .next .ensures)
 
 count-requires : tie.Need-count-requires Inv-loop μ-loop
 count-requires c κs = search needs
 
-contents-length-requires : tie.Need-contents-length-requires Inv-loop μ-loop
-contents-length-requires c κs = search needs
+first-requires : tie.Need-first-requires Inv-loop μ-loop
+first-requires c κs = search needs
 
 loop-holds : tie.Need-loop-holds Inv-loop μ-loop
 loop-holds c =
     let start = c .before .before .before in
     let l = now (start .args .file) in
-    (omega arith, c .before .count .ensures ∙ count-read l (start .pre .0), c .contents-length .ensures ∙ length-read l (start .pre .0), below-none _)
+    (file-first l (start .pre .0) (c .first .ensures), c .before .count .ensures ∙ count-read l (start .pre .0), file-none l (start .pre .0) (c .first .ensures) _)
 
 opens-requires : tie.Need-opens-requires Inv-loop μ-loop
-opens-requires c κs = let at-loop = c .before in (at-loop .before .before .before .before .pre .0, omega arith)
+opens-requires c κs = search needs
 
 is-as-asked-requires : tie.Need-is-as-asked-requires Inv-loop μ-loop
 is-as-asked-requires c κs =
     let asking = c .before in
-    let at-loop = asking .before .before in
+    let at-loop = asking .before .before .before in
     let start = at-loop .before .before .before .before in
     let l = now (start .args .file) in
-    let there : at-loop .loop .i < count l = omega arith in (
+    let i = at-loop .loop .body .number in
+    let there : i < count l = omega (arith, at-loop .loop .inv .1) in (
       start .pre .0,
       (
         there,
         (
-          at-loop .loop .inv .2,
-          (λ e. (start .pre .1 e .0, opened-asked l (start .args .low) (start .args .high) false (start .pre .1 e .1) (at-loop .loop .i) there (sym (asking .opens .ensures) ∙ c .if1 .taken))),
+          at-loop .loop .inv .0 .start,
+          (λ e. (start .pre .1 e .0, opened-asked l (start .args .low) (start .args .high) false (start .pre .1 e .1) i there (sym (opened-is asking) ∙ c .if2 .taken))),
         ),
       ),
     )
@@ -73,39 +88,41 @@ returns : tie.Need-returns Inv-loop μ-loop
 returns c =
     let tested = c .before in
     let asking = tested .before .before in
-    let at-loop = asking .before .before in
+    let at-loop = asking .before .before .before in
     let args = at-loop .before .before .before .before .args in
     let l = now (args .file) in
-    let i = at-loop .loop .i in
-    first-only (count l) i (λ k. pick (opens l (args .low) (args .high) k) (asked l (args .ranges) k) true) (omega arith) (at-loop .loop .inv .3)
-    (λ _. ap (λ t. pick t (asked l (args .ranges) i) true) (sym (asking .opens .ensures) ∙ tested .before .if1 .taken) ∙ sym (tested .is-as-asked .ensures) ∙ not-true _ (c .if2 .taken))
+    let i = at-loop .loop .body .number in
+    first-only (count l) i (λ k. pick (opens l (args .low) (args .high) k) (asked l (args .ranges) k) true) (at-loop .loop .inv .0 .within) (at-loop .loop .inv .2)
+    (λ _. ap (λ t. pick t (asked l (args .ranges) i) true) (sym (opened-is asking) ∙ tested .before .if2 .taken) ∙ sym (tested .is-as-asked .ensures) ∙ not-true _ (c .if3 .taken))
 
-next-start-requires : tie.Need-next-start-requires Inv-loop μ-loop
-next-start-requires c κs =
-    let at-loop = c .before .before .before in
-    (at-loop .before .before .before .before .pre .0, (omega arith, at-loop .loop .inv .2))
-
-add-i : tie.Need-add-i Inv-loop μ-loop
-add-i c = search needs
+next-requires : tie.Need-next-requires Inv-loop μ-loop
+next-requires c κs = search needs
 
 loop-less : tie.Need-loop-less Inv-loop μ-loop
-loop-less c = search needs
+loop-less c = omega (arith, next-number c)
 
 loop-again : tie.Need-loop-again Inv-loop μ-loop
 loop-again c =
     let joined = c .before in
-    let at-loop = joined .before .before .before in
-    (omega arith, at-loop .loop .inv .1, c .next-start .ensures, below-more _ _ (at-loop .loop .inv .3) (passed-over joined))
+    let at-loop = joined .before .before .before .before in
+    let start = at-loop .before .before .before .before in
+    let l = now (start .args .file) in
+    let walk = at-loop .loop .inv .0 in
+    let more : at-loop .loop .body .number < count l = omega (arith, at-loop .loop .inv .1) in (
+      file-next l (start .pre .0) (omega arith) walk more (c .next .ensures),
+      at-loop .loop .inv .1,
+      file-passed l (start .pre .0) (omega arith) walk more (c .next .ensures) (at-loop .loop .inv .2) (passed-over joined),
+    )
 
 returns-2 : tie.Need-returns-2 Inv-loop μ-loop
 returns-2 c =
-    let at-loop = c .before in
+    let at-loop = c .before .before in
     let args = at-loop .before .before .before .before .args in
     let l = now (args .file) in
-    let all : at-loop .loop .i ≡ count l = omega (arith, at-loop .loop .inv .0, at-loop .loop .inv .1) in
+    let all : at-loop .loop .body .number ≡ count l = omega (arith, at-loop .loop .inv .0 .within, at-loop .loop .inv .1) in
     at-loop .loop .inv .1
     ∙ first-only (count l) (count l) (λ k. pick (opens l (args .low) (args .high) k) (asked l (args .ranges) k) true) (omega arith)
-    (λ k h. at-loop .loop .inv .3 k (omega arith)) (λ h. absurd (omega arith))
+    (λ k h. at-loop .loop .inv .2 k (omega arith)) (λ h. absurd (omega arith))
 
 pub lowest-bad-spec : {M : Type 1} → statement M
 lowest-bad-spec =
@@ -114,13 +131,12 @@ lowest-bad-spec =
     Inv-loop
     μ-loop
     count-requires
-    contents-length-requires
+    first-requires
     loop-holds
     opens-requires
     is-as-asked-requires
     returns
-    next-start-requires
-    add-i
+    next-requires
     loop-less
     loop-again
     returns-2)

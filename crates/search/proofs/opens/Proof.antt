@@ -1,29 +1,25 @@
--- `search::opens` meets its contract: the edition and the range are those that stand in the file.
+-- `search::opens` meets its contract: the edition decides first, and then the range that the entry says.
 -- Assumes nothing.
-use mathlib.Core.Path.{_≡_, sym, ap, _∙_}
+use mathlib.Core.Path.{sym, ap, _∙_}
 use denote.Ref.{now}
 use borrow.Author.Needs.{needs}
 use borrow.Author.Tests.{eq-eqb, ne-eqb}
 use Rattle.places.specs.Pick.{either}
-use Rattle.contents.specs.Contents.{edition, rangeOf}
-use Rattle.files.proofs.Files.{edition-read, range-read}
-use Rattle.search.specs.Search.{meets, opens}
+use Rattle.contents.specs.Contents.{editionOr, rangeOr}
+use Rattle.search.specs.Search.{meets}
+use Rattle.search.specs.Steps.{opensBy}
 use Rattle.search.proofs.opens.Statement.{statement}
 use Rattle.search.proofs.opens.Tie as tie
-
--- the edition that was read
-edition-is : (c : tie.After-edition) → c .edition .result ≡ edition (now (c .before .before .args .file))
-edition-is c = let start = c .before .before in c .edition .ensures ∙ edition-read (now (start .args .file)) (start .pre .0)
 
 edition-requires : tie.Need-edition-requires
 edition-requires c κs = search needs
 
 returns : tie.Need-returns
-unfolding opens
+unfolding opensBy
 returns c =
-    let start = c .before .before .before in
-    let l = now (start .args .file) in
-    sym (ap (λ t. either t (meets (rangeOf l (start .args .i)) (start .args .low) (start .args .high))) (eq-eqb (edition l) 1 (sym (edition-is (c .before)) ∙ c .if1 .taken)))
+    let args = c .before .before .before .args in
+    let front = now (args .front) in
+    sym (ap (λ t. either t (meets (rangeOr front (args .i)) (args .low) (args .high))) (eq-eqb (editionOr front) 1 (sym (c .before .edition .ensures) ∙ c .if1 .taken)))
 
 range-or-requires : tie.Need-range-or-requires
 range-or-requires c κs = search needs
@@ -32,17 +28,15 @@ meets-requires : tie.Need-meets-requires
 meets-requires c κs = search needs
 
 returns-2 : tie.Need-returns-2
-unfolding opens
+unfolding opensBy
 returns-2 c =
     let ranged = c .before in
     let other = ranged .before in
-    let start = other .before .before .before in
-    let l = now (start .args .file) in
-    let low = start .args .low in
-    let high = start .args .high in
+    let args = other .before .before .before .args in
+    let front = now (args .front) in
     c .meets .ensures
-    ∙ ap (λ r. meets r low high) (ranged .range-or .ensures ∙ range-read l (start .pre .0) (start .args .i) (start .pre .1))
-    ∙ sym (ap (λ t. either t (meets (rangeOf l (start .args .i)) low high)) (ne-eqb (edition l) 1 (λ e. other .if1 .left (edition-is (other .before) ∙ e))))
+    ∙ ap (λ r. meets r (args .low) (args .high)) (ranged .range-or .ensures)
+    ∙ sym (ap (λ t. either t (meets (rangeOr front (args .i)) (args .low) (args .high))) (ne-eqb (editionOr front) 1 (λ e. other .if1 .left (other .before .edition .ensures ∙ e))))
 
 pub opens-spec : {M : Type 1} → statement M
 opens-spec = tie.close (tie.spec edition-requires returns range-or-requires meets-requires returns-2)

@@ -1,0 +1,4 @@
+pub mod Fronts
+pub mod Told
+pub mod Steps
+pub mod Walking

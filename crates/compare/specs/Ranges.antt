@@ -1,0 +1,14 @@
+-- Whether two files say the same of a block (document 02, Item 12).
+-- Assumes nothing.
+use mathlib.Core.Bool.{Bool}
+use mathlib.Core.List.{List}
+use Prim.Native.Nat.{ℕ}
+use lib.Dec.{eqb}
+use Rattle.places.specs.Pick.{both}
+use Rattle.contents.specs.Contents.{editionOr, rangeOr}
+
+-- This test says that two files say the same of the range of block i.
+unfoldable pub sameRange : (left right : List ℕ) (i : ℕ) → Bool
+sameRange left right i =
+    both (eqb (editionOr left) (editionOr right))
+    (both (eqb (rangeOr left i .smallest) (rangeOr right i .smallest)) (eqb (rangeOr left i .largest) (rangeOr right i .largest)))
