@@ -1,319 +1,264 @@
 // Says what differs between two column files (document 02, Item 12): compares left.col with right.col in the folder where it is
 // run, and writes to standard output a line for each row whose numbers differ, `row left right`, rising; then `rows A B` where
 // the row counts differ; and then `differences K`. Both files are checked before anything is listed, and the first bad one,
-// left before right, gives the only line, `refused left X Y` or `refused right X Y`. A file that does not open or cannot be
-// read gives 8 and 0, as one does that is cut short.
+// left before right, gives the only line, `refused left X Y` or `refused right X Y`.
 //
-// It holds the contents of both files, one body and one block of each, and goes through the files twice by positions: once to
-// check them and once to compare them. What it decides is proved in the crate compare; the reading and the lines
-// stand in the crate console, and here the printing, in the module print, and the walk that compares.
-//
-// A file that changes between the walks: a body is tested again when it is read again, and no row is listed from one that is
-// refused then. The refusal of its file is the last line.
-mod print;
-
-use compare::blocks_in_both;
-use compare::check_block;
-use compare::differing;
-use compare::row_count;
-use compare::same_range;
+// What is read and what is written, and in which order, the machine of the crate listing says; here its wishes are granted one after
+// another. This is to be read beside `granted` and `runsBy` in the definitions of the crate wishes, which say the same of lists. A file
+// that does not open is one of no bytes, and so is one that cannot be read.
 use console::lines::write_out;
-use console::read::next_start;
-use console::read::read_front;
-use console::walk::check_file;
-use console::walk::lay_down;
-use contents::FileAnswer;
-use contents::contents_length;
-use contents::entry_or;
-use print::put_changes;
-use print::write_end;
-use print::write_refusal;
+use console::read::length_of;
+use console::read::read_at;
+use listing::State;
+use listing::Turn;
+use listing::next;
+use listing::start;
+use listing::turns;
+use wishes::Part;
+use wishes::Side;
+use wishes::Wish;
+ghost use mathlib.Core.Path.{_≡_};
+ghost use Prim.Native.Nat.{_≤_};
+ghost use lib.ListN.{length, take};
+
+// The room for the front of a file, and for a body.
+const FRONT: usize = 8196;
+
+const BODY: usize = 10240;
 
 fn main() {
-    let left = os::open_read(b"left.col");
-    if left < 0 {
-        os::fail(b"left.col");
-    }
-    let right = os::open_read(b"right.col");
-    if right < 0 {
-        os::fail(b"right.col");
-    }
-    let mut left_front = [0u8; 8196];
-    let mut right_front = [0u8; 8196];
-    let mut body = [0u8; 10240];
-    check_both(left, right, &mut left_front, &mut right_front, &mut body);
-}
-
-// Checks both files, and then compares them.
-fn check_both(
-    left: i32,
-    right: i32,
-    left_front: &mut [u8],
-    right_front: &mut [u8],
-    body: &mut [u8],
-) {
-    let m = read_front(left, left_front);
-    let n = read_front(right, right_front);
-    let answer = check_file(left, &left_front[..m], body);
-    if answer.number() != 0 {
-        write_refusal(b"left", answer);
-        return;
-    }
-    let answer = check_file(right, &right_front[..n], body);
-    if answer.number() != 0 {
-        write_refusal(b"right", answer);
-        return;
-    }
-    make_room(left, right, &left_front[..m], &right_front[..n], body);
-}
-
-// Room for a block of each file, for the places at which they differ, and for what is printed.
-fn make_room(left: i32, right: i32, left_front: &[u8], right_front: &[u8], body: &mut [u8]) {
-    let mut left_block = [0u64; 1024];
-    let mut right_block = [0u64; 1024];
-    let mut places = [0u16; 1024];
+    let left = opened(b"left.col");
+    let right = opened(b"right.col");
+    let mut left_front = [0u8; FRONT];
+    let mut right_front = [0u8; FRONT];
+    let mut left_body = [0u8; BODY];
+    let mut right_body = [0u8; BODY];
     let mut out = [0u8; 65536];
-    list_changes(
+    run(
         left,
         right,
-        left_front,
-        right_front,
-        body,
-        &mut left_block,
-        &mut right_block,
-        &mut places,
+        &mut left_front,
+        &mut right_front,
+        &mut left_body,
+        &mut right_body,
         &mut out,
     );
 }
 
-// How far the comparing is: the files, where the next body of each begins, how many bytes of the output are gathered, how many
-// rows differ so far, and whether a file was refused, which ends it.
-struct Walk {
-    left: i32,
-    right: i32,
-    left_at: usize,
-    right_at: usize,
-    gathered: usize,
-    differences: u64,
-    refused: bool,
+// The open file of that name. The system's words go to standard error where it does not open.
+fn opened(name: &[u8]) -> i32 {
+    let fd = os::open_read(name);
+    if fd < 0 {
+        os::fail(name);
+    }
+    fd
 }
 
-// What comparing a block of each file gives: how many places differ, which are listed; or the refusal of a file that has
-// changed since it was checked.
-enum Found {
-    Places(usize),
-    Left(FileAnswer),
-    Right(FileAnswer),
+// How many bytes the buffers of one file hold,
+struct Filled {
+    front: usize,
+    body: usize,
 }
 
-// Lists the changes of all blocks that are in both files, and then says how many they are.
-fn list_changes(
+// and those of both; and whether the run goes on.
+struct Held {
+    left: Filled,
+    right: Filled,
+    on: bool,
+}
+
+// A turn of the machine, and what the buffers hold then.
+struct Now {
+    turn: Turn,
+    held: Held,
+}
+
+// The machine is given as many turns as it needs.
+fn run(
     left: i32,
     right: i32,
-    left_front: &[u8],
-    right_front: &[u8],
-    body: &mut [u8],
-    left_block: &mut [u64],
-    right_block: &mut [u64],
-    places: &mut [u16],
+    left_front: &mut [u8],
+    right_front: &mut [u8],
+    left_body: &mut [u8],
+    right_body: &mut [u8],
     out: &mut [u8],
 ) {
-    let mut walk = Walk {
-        left,
-        right,
-        left_at: contents_length(left_front),
-        right_at: contents_length(right_front),
-        gathered: 0,
-        differences: 0,
-        refused: false,
+    let mut now = Now {
+        turn: start(length_of(left), length_of(right)),
+        held: Held {
+            left: Filled { front: 0, body: 0 },
+            right: Filled { front: 0, body: 0 },
+            on: true,
+        },
     };
-    let n = blocks_in_both(left_front, right_front);
-    for i in 0..n {
-        let next = list_block(
-            walk,
-            i,
+    let mut more = turns();
+    while more > 0 {
+        now = take_turn(
+            now,
+            left,
+            right,
             left_front,
             right_front,
-            body,
-            left_block,
-            right_block,
-            places,
+            left_body,
+            right_body,
             out,
         );
-        walk = next;
-    }
-    if !walk.refused {
-        write_end(
-            row_count(left_front),
-            row_count(right_front),
-            walk.differences,
-            out,
-            walk.gathered,
-        );
+        if !now.held.on {
+            return;
+        }
+        more -= 1;
     }
 }
 
-// Compares block i of both files, and puts a line for each row that differs to the output. Where a file is refused, its refusal
-// is the last line, and later blocks are not looked at.
-fn list_block(
-    walk: Walk,
-    i: u16,
-    left_front: &[u8],
-    right_front: &[u8],
-    body: &mut [u8],
-    left_block: &mut [u64],
-    right_block: &mut [u64],
-    places: &mut [u16],
+// A turn grants the wish, and then the machine is shown what the buffers hold, and says what it wishes next.
+fn take_turn(
+    now: Now,
+    left: i32,
+    right: i32,
+    left_front: &mut [u8],
+    right_front: &mut [u8],
+    left_body: &mut [u8],
+    right_body: &mut [u8],
     out: &mut [u8],
-) -> Walk {
-    if walk.refused {
-        return walk;
-    }
-    let found = compare_block(
-        walk,
-        i,
+) -> Now {
+    let turn = now.turn;
+    let before = now.held;
+    let wish = turn.wish;
+    let state = turn.state;
+    let held = grant(
+        wish,
+        left,
+        right,
+        before,
         left_front,
         right_front,
-        body,
-        left_block,
-        right_block,
-        places,
+        left_body,
+        right_body,
+        out,
     );
-    match found {
-        Found::Places(k) => {
-            let at = put_changes(i, left_block, right_block, places, k, out, walk.gathered);
-            past(walk, left_front, right_front, i as usize, at, k)
-        }
-        Found::Left(answer) => {
-            write_out(out, walk.gathered);
-            write_refusal(b"left", answer);
-            refused(walk)
-        }
-        Found::Right(answer) => {
-            write_out(out, walk.gathered);
-            write_refusal(b"right", answer);
-            refused(walk)
-        }
+    if !held.on {
+        return Now { turn, held };
+    }
+    Now {
+        turn: follow(
+            state,
+            held,
+            left_front,
+            right_front,
+            left_body,
+            right_body,
+            out,
+        ),
+        held,
     }
 }
 
-// Reads block i of both files again, and compares them.
-fn compare_block(
-    walk: Walk,
-    i: u16,
+// A read fills its buffer with the part of its file, and a write writes the front of the output. Where there is no room for a read,
+// and where a write fails, the run stops.
+fn grant(
+    wish: Wish,
+    left: i32,
+    right: i32,
+    held: Held,
+    left_front: &mut [u8],
+    right_front: &mut [u8],
+    left_body: &mut [u8],
+    right_body: &mut [u8],
+    out: &[u8],
+) -> Held {
+    let of_left = held.left;
+    let of_right = held.right;
+    match wish {
+        Wish::Read(side, part, at, n) => match side {
+            Side::Left => Held {
+                left: fill(left, part, at, n, of_left, left_front, left_body),
+                right: of_right,
+                on: n <= room_of(part),
+            },
+            Side::Right => Held {
+                left: of_left,
+                right: fill(right, part, at, n, of_right, right_front, right_body),
+                on: n <= room_of(part),
+            },
+        },
+        Wish::Write(n) => Held {
+            left: of_left,
+            right: of_right,
+            on: write_out(out, n),
+        },
+        Wish::Done => Held {
+            left: of_left,
+            right: of_right,
+            on: false,
+        },
+    }
+}
+
+fn room_of(part: Part) -> usize {
+    match part {
+        Part::Front => FRONT,
+        Part::Body => BODY,
+    }
+}
+
+// Reads n bytes of a file from `at` on into one of its buffers.
+fn fill(
+    fd: i32,
+    part: Part,
+    at: usize,
+    n: usize,
+    held: Filled,
+    front: &mut [u8],
+    body: &mut [u8],
+) -> Filled {
+    match part {
+        Part::Front => Filled {
+            front: read_part(fd, at, n, front),
+            body: held.body,
+        },
+        Part::Body => Filled {
+            front: held.front,
+            body: read_part(fd, at, n, body),
+        },
+    }
+}
+
+// Reads n bytes from `at` on to the front of a buffer, and says how many are there.
+fn read_part(fd: i32, at: usize, n: usize, part: &mut [u8]) -> usize
+    ensures { λ r. ⌜ r ≤ length (now (part .entry)) ⌝ }
+{
+    if part.len() < n {
+        return 0;
+    }
+    read_at(fd, at, &mut part[..n])
+}
+
+// The next turn of the machine.
+fn follow(
+    state: State,
+    held: Held,
     left_front: &[u8],
     right_front: &[u8],
-    body: &mut [u8],
-    left_block: &mut [u64],
-    right_block: &mut [u64],
-    places: &mut [u16],
-) -> Found {
-    let answer = lay_down(
-        walk.left,
-        left_front,
-        i as usize,
-        walk.left_at,
-        body,
-        left_block,
-    );
-    if answer.number() != 0 {
-        return Found::Left(answer);
-    }
-    let answer = lay_down(
-        walk.right,
-        right_front,
-        i as usize,
-        walk.right_at,
-        body,
-        right_block,
-    );
-    if answer.number() != 0 {
-        return Found::Right(answer);
-    }
-    compare_laid(
-        i as usize,
-        left_front,
-        right_front,
-        left_block,
-        right_block,
-        places,
+    left_body: &[u8],
+    right_body: &[u8],
+    out: &mut [u8],
+) -> Turn {
+    next(
+        state,
+        front_of(left_front, held.left.front),
+        front_of(right_front, held.right.front),
+        front_of(left_body, held.left.body),
+        front_of(right_body, held.right.body),
+        out,
     )
 }
 
-// Compares block i of both files, which are laid down. Their ranges are looked at again where a row is listed, and where the files
-// do not say the same one: equal blocks with equal ranges are both right or both wrong, so that a change of one file does not hide
-// there. The blocks and the room for places are arrays of 1,024, so that `differing` refuses none of them.
-fn compare_laid(
-    i: usize,
-    left_front: &[u8],
-    right_front: &[u8],
-    left_block: &[u64],
-    right_block: &[u64],
-    places: &mut [u16],
-) -> Found {
-    let compared = differing(left_block, right_block, places);
-    let answer = compared.answer();
-    if answer.number() != 0 {
-        return Found::Left(answer);
+// The first n bytes of a buffer, or all where it has fewer.
+fn front_of(buffer: &[u8], n: usize) -> &[u8]
+    ensures { λ r. ⌜ now r ≡ take n (now (buffer .entry)) ⌝ }
+{
+    if n < buffer.len() {
+        return &buffer[..n];
     }
-    let k = compared.count();
-    if k == 0 {
-        if same_range(left_front, right_front, i) {
-            return Found::Places(0);
-        }
-    }
-    let answer = check_block(left_front, i, left_block);
-    if answer.number() != 0 {
-        return Found::Left(answer);
-    }
-    let answer = check_block(right_front, i, right_block);
-    if answer.number() != 0 {
-        return Found::Right(answer);
-    }
-    Found::Places(k)
-}
-
-// The walk behind block i, in which k rows differ.
-fn past(
-    walk: Walk,
-    left_front: &[u8],
-    right_front: &[u8],
-    i: usize,
-    gathered: usize,
-    k: usize,
-) -> Walk {
-    let l = entry_or(left_front, i);
-    let r = entry_or(right_front, i);
-    Walk {
-        left: walk.left,
-        right: walk.right,
-        left_at: next_start(walk.left_at, l.length),
-        right_at: next_start(walk.right_at, r.length),
-        gathered,
-        differences: plus(walk.differences, k),
-        refused: false,
-    }
-}
-
-// The walk that a refused file ends.
-fn refused(walk: Walk) -> Walk {
-    Walk {
-        left: walk.left,
-        right: walk.right,
-        left_at: walk.left_at,
-        right_at: walk.right_at,
-        gathered: 0,
-        differences: walk.differences,
-        refused: true,
-    }
-}
-
-// A count with k more. There are never so many that they do not fit.
-fn plus(count: u64, k: usize) -> u64 {
-    if count < 0x4000_0000_0000_0000 {
-        if k < 0x4000_0000_0000_0000 {
-            return count + k as u64;
-        }
-    }
-    count
+    buffer
 }

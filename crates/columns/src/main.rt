@@ -7,6 +7,7 @@
 // status to file 3, which tools/columns opens: 0, 1 where nothing was found or a file is not as our writer would write it, or 2 where something
 // was refused or failed. The program makes no file: what `write` and `rewrite` give is their output.
 mod input;
+mod parts;
 mod say;
 mod walk;
 mod whole;

@@ -4,15 +4,21 @@ use crate::CHECK;
 use crate::ROWS;
 use crate::SHOW;
 use crate::Task;
+use crate::parts::check_file;
+use crate::parts::lay_down;
+use crate::parts::read_front;
 use crate::say::finished;
 use crate::say::put_name;
 use crate::say::put_refusal;
 use crate::say::refuse;
 use crate::say::unread;
 use crate::whole;
-use compare::check_block;
-use compare::front_length;
-use compare::row_count;
+use bodywise::Body;
+use bodywise::check_block;
+use bodywise::first;
+use bodywise::front_length;
+use bodywise::next;
+use bodywise::row_count;
 use console::lines::put_number;
 use console::lines::put_text;
 use console::lines::put_times;
@@ -20,15 +26,9 @@ use console::lines::put_wide;
 use console::lines::write_if_full;
 use console::lines::write_out;
 use console::read::length_of;
-use console::read::next_start;
-use console::read::read_front;
-use console::walk::check_file;
-use console::walk::lay_down;
 use contents::FileAnswer;
-use contents::contents_length;
 use contents::count;
 use contents::edition;
-use contents::entry_or;
 use summary::Summary;
 use summary::marks;
 use summary::of_block;
@@ -62,10 +62,13 @@ pub fn named(
     status
 }
 
-// Whether the file can be read at positions, which a folder and a pipe cannot.
+// Whether the file can be read at positions, which a folder and a pipe cannot. A read that is interrupted says so too: they fail at once.
 fn is_readable(fd: i32) -> bool {
     let mut one = [0u8; 1];
-    libc::pread(fd, &mut one, 0) >= 0
+    if libc::pread(fd, &mut one, 0) >= 0 {
+        return true;
+    }
+    os::errno() == libc::EINTR
 }
 
 fn opened(
@@ -225,9 +228,9 @@ fn beyond(task: Task, rows: u64) -> bool {
     rows <= task.second
 }
 
-// How far the walk is: where the next body begins, how many bytes of the output are gathered, and the status, which ends it where it is not 0.
+// How far the walk is: the next body, how many bytes of the output are gathered, and the status, which ends it where it is not 0.
 struct Walk {
-    start: usize,
+    body: Body,
     gathered: usize,
     status: u8,
 }
@@ -244,28 +247,27 @@ fn go_through(
     out: &mut [u8],
 ) -> u8 {
     let mut walk = Walk {
-        start: contents_length(front),
+        body: first(front),
         gathered: put_heading(task, name, many, out),
         status: 0,
     };
     let n = count(front);
     let mut i = 0;
     while i < n {
-        walk = step(task, walk, i, fd, name, many, front, body, block, out);
+        walk = step(task, walk, fd, name, many, front, body, block, out);
         i += 1;
     }
     if walk.status != 0 {
         return walk.status;
     }
-    let at = put_totals(task, name, many, front, walk.start, out, walk.gathered);
+    let at = put_totals(task, name, many, front, walk.body.at, out, walk.gathered);
     finished(write_out(out, at))
 }
 
-// Block i, where the walk goes on and the block is asked for.
+// One block, where the walk goes on and the block is asked for.
 fn step(
     task: Task,
     walk: Walk,
-    i: usize,
     fd: i32,
     name: &[u8],
     many: bool,
@@ -277,28 +279,28 @@ fn step(
     if walk.status != 0 {
         return walk;
     }
-    let e = entry_or(front, i);
-    let next = next_start(walk.start, e.length);
+    let i = walk.body.number;
+    let behind = next(front, walk.body);
     if is_left_out(task, i) {
-        return at_place(next, walk.gathered, 0);
+        return at_body(behind, walk.gathered, 0);
     }
-    let answer = lay_down(fd, front, i, walk.start, body, block);
+    let answer = lay_down(fd, front, walk.body, body, block);
     if answer.number() != 0 {
         write_out(out, walk.gathered);
-        return at_place(next, 0, refused_body(task, answer, name, many));
+        return at_body(behind, 0, refused_body(task, answer, name, many));
     }
     let answer = check_block(front, i, block);
     if answer.number() != 0 {
         write_out(out, walk.gathered);
-        return at_place(next, 0, refuse(answer, name));
+        return at_body(behind, 0, refuse(answer, name));
     }
     let at = put_block(task, i, name, many, front, block, out, walk.gathered);
-    at_place(next, at, 0)
+    at_body(behind, at, 0)
 }
 
-fn at_place(start: usize, gathered: usize, status: u8) -> Walk {
+fn at_body(body: Body, gathered: usize, status: u8) -> Walk {
     Walk {
-        start,
+        body,
         gathered,
         status,
     }

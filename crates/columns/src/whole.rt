@@ -10,16 +10,16 @@ use crate::say::put_name;
 use crate::say::refuse;
 use crate::say::unread;
 use crate::walk::LINE;
+use bodywise::Body;
+use bodywise::first;
+use bodywise::next;
 use console::lines::put_number;
 use console::lines::put_text;
 use console::lines::write_if_full;
 use console::lines::write_out;
 use console::read::length_of;
-use console::read::next_start;
 use console::read::read_at;
-use contents::contents_length;
 use contents::count;
-use contents::entry_or;
 use files::Row;
 use files::block_from;
 use search::Found;
@@ -121,9 +121,9 @@ fn say_found(n: usize, k: usize, name: &[u8], many: bool, file: &[u8], rows: &[u
     0
 }
 
-// How far the listing is: where the next body begins, how many bytes are gathered, and how many rows are listed.
+// How far the listing is: the next body, how many bytes are gathered, and how many rows are listed.
 struct Walk {
-    start: usize,
+    body: Body,
     gathered: usize,
     listed: usize,
 }
@@ -139,14 +139,14 @@ fn list_found(
     out: &mut [u8],
 ) -> bool {
     let mut walk = Walk {
-        start: contents_length(file),
+        body: first(file),
         gathered: 0,
         listed: 0,
     };
     let blocks = count(file);
     let mut i = 0;
     while i < blocks {
-        walk = list_block(walk, i, n, name, many, file, rows, block, out);
+        walk = list_block(walk, n, name, many, file, rows, block, out);
         i += 1;
     }
     let at = write_if_full(LINE, out, walk.gathered);
@@ -170,10 +170,9 @@ fn put_end(blocks: u64, out: &mut [u8], at: usize) -> usize {
     put_text(b" blocks\n", out, at)
 }
 
-// The rows that were found in block i. A block with none is not laid down.
+// The rows that were found in a block. A block with none is not laid down.
 fn list_block(
     walk: Walk,
-    i: usize,
     n: usize,
     name: &[u8],
     many: bool,
@@ -182,18 +181,18 @@ fn list_block(
     block: &mut [u64],
     out: &mut [u8],
 ) -> Walk {
-    let e = entry_or(file, i);
-    let next = next_start(walk.start, e.length);
+    let i = walk.body.number;
+    let behind = next(file, walk.body);
     if !is_in(walk.listed, i, n, rows) {
-        return at_place(next, walk.gathered, walk.listed);
+        return at_body(behind, walk.gathered, walk.listed);
     }
-    block_from(file, i, walk.start, block);
-    list_rows(walk, next, i, n, name, many, rows, block, out)
+    block_from(file, i, walk.body.at, block);
+    list_rows(walk, behind, i, n, name, many, rows, block, out)
 }
 
-fn at_place(start: usize, gathered: usize, listed: usize) -> Walk {
+fn at_body(body: Body, gathered: usize, listed: usize) -> Walk {
     Walk {
-        start,
+        body,
         gathered,
         listed,
     }
@@ -212,7 +211,7 @@ fn is_in(listed: usize, i: usize, n: usize, rows: &[u64]) -> bool {
 
 fn list_rows(
     walk: Walk,
-    next: usize,
+    behind: Body,
     i: usize,
     n: usize,
     name: &[u8],
@@ -225,7 +224,7 @@ fn list_rows(
     let mut k = walk.listed;
     while k < n {
         if !is_in(k, i, n, rows) {
-            return at_place(next, at, k);
+            return at_body(behind, at, k);
         }
         at = put_found(
             k,
@@ -238,7 +237,7 @@ fn list_rows(
         );
         k += 1;
     }
-    at_place(next, at, k)
+    at_body(behind, at, k)
 }
 
 // A row and its value.

@@ -13,8 +13,8 @@ Inv-loop task fd name many front body₀ block₀ out₀ walk₀ n i₀ body blo
 abbrev μ-loop : tie.MeasureT-loop
 μ-loop task fd name many front body₀ block₀ out₀ walk₀ n i₀ body block out walk i = n - i
 
-contents-length-requires : tie.Need-contents-length-requires Inv-loop μ-loop
-contents-length-requires c κs = search needs
+first-requires : tie.Need-first-requires Inv-loop μ-loop
+first-requires c κs = search needs
 
 put-heading-requires : tie.Need-put-heading-requires Inv-loop μ-loop
 put-heading-requires c κs = search needs
@@ -76,7 +76,7 @@ go-through-spec =
     (tie.spec
     Inv-loop
     μ-loop
-    contents-length-requires
+    first-requires
     put-heading-requires
     count-requires
     loop-holds

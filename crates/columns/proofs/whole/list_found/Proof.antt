@@ -13,8 +13,8 @@ Inv-loop n k name many file rows block₀ out₀ walk₀ blocks i₀ block out w
 abbrev μ-loop : tie.MeasureT-loop
 μ-loop n k name many file rows block₀ out₀ walk₀ blocks i₀ block out walk i = blocks - i
 
-contents-length-requires : tie.Need-contents-length-requires Inv-loop μ-loop
-contents-length-requires c κs = search needs
+first-requires : tie.Need-first-requires Inv-loop μ-loop
+first-requires c κs = search needs
 
 count-requires : tie.Need-count-requires Inv-loop μ-loop
 count-requires c κs = search needs
@@ -61,7 +61,7 @@ list-found-spec =
     (tie.spec
     Inv-loop
     μ-loop
-    contents-length-requires
+    first-requires
     count-requires
     loop-holds
     list-block-requires

@@ -8,10 +8,10 @@ use Rattle.columns.proofs.whole.list_rows.Statement.{statement}
 use Rattle.columns.proofs.whole.list_rows.Tie as tie
 
 abbrev Inv-loop : tie.InvT-loop
-Inv-loop next i n name many rows block out₀ at₀ k₀ out at k = length out ≡ length out₀
+Inv-loop behind i n name many rows block out₀ at₀ k₀ out at k = length out ≡ length out₀
 
 abbrev μ-loop : tie.MeasureT-loop
-μ-loop next i n name many rows block out₀ at₀ k₀ out at k = n - k
+μ-loop behind i n name many rows block out₀ at₀ k₀ out at k = n - k
 
 loop-holds : tie.Need-loop-holds Inv-loop μ-loop
 loop-holds c = search needs
@@ -19,8 +19,8 @@ loop-holds c = search needs
 is-in-requires : tie.Need-is-in-requires Inv-loop μ-loop
 is-in-requires c κs = search needs
 
-at-place-requires : tie.Need-at-place-requires Inv-loop μ-loop
-at-place-requires c κs = search needs
+at-body-requires : tie.Need-at-body-requires Inv-loop μ-loop
+at-body-requires c κs = search needs
 
 same-length : tie.Need-same-length Inv-loop μ-loop
 same-length c = search needs
@@ -43,8 +43,8 @@ loop-less c = search needs
 loop-again : tie.Need-loop-again Inv-loop μ-loop
 loop-again c = search needs
 
-at-place-requires-2 : tie.Need-at-place-requires-2 Inv-loop μ-loop
-at-place-requires-2 c κs = search needs
+at-body-requires-2 : tie.Need-at-body-requires-2 Inv-loop μ-loop
+at-body-requires-2 c κs = search needs
 
 same-length-2 : tie.Need-same-length-2 Inv-loop μ-loop
 same-length-2 c = search needs
@@ -60,7 +60,7 @@ list-rows-spec =
     μ-loop
     loop-holds
     is-in-requires
-    at-place-requires
+    at-body-requires
     same-length
     returns
     write-if-full-requires
@@ -68,6 +68,6 @@ list-rows-spec =
     add-k
     loop-less
     loop-again
-    at-place-requires-2
+    at-body-requires-2
     same-length-2
     returns-2)

@@ -1,16 +1,22 @@
--- `console::lines::put_number` stays within the buffer: no more is laid than there is room for.
+-- `console::lines::put_number` meets its contract: the number goes into the tail that is lent.
 -- Assumes nothing.
-use mathlib.Core.Path.{_≡_}
-use Prim.Native.Nat.{_-_}
+use mathlib.Core.Path.{_≡_, ap, _∙_}
+use Prim.Native.Nat.{_+_, _-_}
 use native.Mathlib.Omega.{arith}
+use denote.Ref.{now}
 use lib.ListN.{length, take, drop, length-take, length-drop}
 use borrow.Author.Needs.{needs}
+use borrow.Rule.Slice.PartMut.{putMid}
 use Rattle.decimal.proofs.Texts.{laid-within}
+use Rattle.console.proofs.Laid.{no-number, number-laid}
 use Rattle.console.proofs.lines.put_number.Statement.{statement}
 use Rattle.console.proofs.lines.put_number.Tie as tie
 
 returns : tie.Need-returns
-returns c = search needs
+returns c =
+    let args = c .before .before .args in
+    let none = no-number (args .n) (now (args .out)) (args .at) (omega arith) in
+    (none .place-is, none .is)
 
 sub-lay : tie.Need-sub-lay
 sub-lay c = search needs
@@ -35,7 +41,12 @@ same-length : tie.Need-same-length
 same-length c = search needs
 
 returns-2 : tie.Need-returns-2
-returns-2 c = search needs
+returns-2 c =
+    let args = c .before .before .before .before .before .before .args in
+    let laid = number-laid (args .n) (now (args .out)) (args .at) (omega arith) in (
+      ap (λ k. args .at + k) (c .before .before .lay .ensures .0) ∙ laid .place-is,
+      ap (putMid (args .at) (length (now (args .out)) - args .at) (now (args .out))) (c .before .before .lay .ensures .1) ∙ laid .is,
+    )
 
 pub put-number-spec : {M : Type 1} → statement M
 put-number-spec =
