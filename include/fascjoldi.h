@@ -309,6 +309,25 @@ size_t fascjoldi_body_block_out(const uint8_t *front, size_t front_length, size_
 size_t fascjoldi_body_check_range(const uint8_t *front, size_t front_length, size_t block, const uint64_t *values,
     size_t values_length, size_t *place);
 
+/* Gives the first body of a file, by its front: its number, which is 0, where it begins, and how many bytes its entry says. Of a
+   file of no blocks these bytes say nothing. */
+void fascjoldi_body_first(const uint8_t *front, size_t front_length, size_t *number, size_t *start, uint32_t *length);
+
+/* Goes on from a body of a file, whose number and beginning are lent, to the body behind it, by the front of the file. Where the
+   contents are right, the number behind the last body is the count of blocks, and the beginning is where the file ends; the bytes
+   say nothing there. */
+void fascjoldi_body_next(const uint8_t *front, size_t front_length, size_t *number, size_t *start, uint32_t *length);
+
+/* Says whether a search between two bounds opens a block, by the front of the file: the bodies of the other blocks need not be
+   read. */
+FASCJOLDI_BOOL fascjoldi_search_opens(const uint8_t *front, size_t front_length, size_t block, uint64_t low, uint64_t high);
+
+/* Lists the rows of a block, whose 1,024 numbers were laid down, that lie between two bounds, both included, and says how many
+   they are, and that one block was opened; refused, both are 0. Values that are not 1,024 long are refused with 2, a block that
+   no file has, 256 or higher, with 12, and room that is too short with 14. The room behind the rows stays as it was. */
+size_t fascjoldi_search_rows(const uint64_t *values, size_t values_length, size_t block, uint64_t low, uint64_t high,
+    uint64_t *rows, size_t rows_length, size_t *found, size_t *opened, size_t *place);
+
 /* Lists the places at which two blocks of 1,024 numbers differ, rising, and gives how many they are; refused, the count is 0. The
    places behind these stay as they were. A block or room for places that is not 1,024 long is refused with 2. */
 size_t fascjoldi_block_differing(const uint64_t *left, size_t left_length, const uint64_t *right, size_t right_length,

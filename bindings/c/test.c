@@ -200,6 +200,37 @@ static void files(void)
     expect("sevens rewritten bytes", (uint64_t)memcmp(file, sevens2, 36), 0);
 }
 
+/* The walk over the bodies of that file, of which there is one, and a search of it by its front and its one block: the numbers from 8 to 9 are those that
+   a search of the whole file lists. */
+static void walk(void)
+{
+    static uint64_t listed[1024], rows[1024];
+    size_t number = 77, start = 77, found = 77, opened = 77, whole = 77;
+    uint32_t length = 77;
+    fascjoldi_body_first(nine, 36, &number, &start, &length);
+    expect("first body", number, 0);
+    expect("first body begins", start, 36);
+    expect("first body's bytes", length, 256);
+    fascjoldi_body_next(nine, 36, &number, &start, &length);
+    expect("behind the last body", number, 1);
+    expect("the file ends", start, 292);
+    expect("opened at the upper end", fascjoldi_search_opens(nine, 36, 0, 9, 100), 1);
+    expect("not opened above", fascjoldi_search_opens(nine, 36, 0, 10, 100), 0);
+    expect("searched", fascjoldi_file_search(nine, 292, 8, 9, listed, 1024, &whole, &opened, &place), FASCJOLDI_DONE);
+    memset(rows, 77, sizeof rows);
+    expect("rows of a block", fascjoldi_search_rows(values64, 1024, 0, 8, 9, rows, 1024, &found, &opened, &place), FASCJOLDI_DONE);
+    expect("as many", found, whole);
+    expect("one block", opened, 1);
+    expect("the same rows", (uint64_t)memcmp(rows, listed, 8 * whole), 0);
+    expect("rows of block 3", fascjoldi_search_rows(values64, 1024, 3, 8, 9, rows, 1024, &found, &opened, &place), FASCJOLDI_DONE);
+    expect("first row of block 3", rows[0], 3072 + listed[0]);
+    expect("short block", fascjoldi_search_rows(values64, 1023, 0, 8, 9, rows, 1024, &found, &opened, &place), FASCJOLDI_BLOCK);
+    expect("short block, rows", found, 0);
+    expect("block 256", fascjoldi_search_rows(values64, 1024, 256, 8, 9, rows, 1024, &found, &opened, &place), FASCJOLDI_BEYOND);
+    expect("no room", fascjoldi_search_rows(values64, 1024, 0, 8, 9, rows, whole - 1, &found, &opened, &place), FASCJOLDI_ROOM);
+    expect("no room, blocks", opened, 0);
+}
+
 /* The same file by its front and its one body, as a program asks that never holds a whole file. */
 static void fronts(void)
 {
@@ -228,6 +259,7 @@ static void fronts(void)
     expect("body read", fascjoldi_body_block_out(nine, 36, 0, nine + 36, 256, values64, 1024, &place), FASCJOLDI_DONE);
     expect("body's numbers", (uint64_t)memcmp(values64, out64, 8192), 0);
     expect("range checked", fascjoldi_body_check_range(nine, 36, 0, values64, 1024, &place), FASCJOLDI_DONE);
+    walk();
     values64[5] = 10;
     expect("range refused", fascjoldi_body_check_range(nine, 36, 0, values64, 1024, &place), FASCJOLDI_RANGE);
 }

@@ -34,6 +34,14 @@ pub struct Range {
     pub largest: u64,
 }
 
+/// A body of a file: its number, where it begins, and how many bytes its entry says.
+#[derive(Clone, Copy, Debug, Default, PartialEq, Eq)]
+pub struct Body {
+    pub number: usize,
+    pub start: usize,
+    pub length: u32,
+}
+
 /// Checks a column file, whole.
 pub fn check(file: &[u8]) -> Result<(), Refused> {
     asked!(columns::file_check(file.as_ptr(), file.len()) gives ())
@@ -148,6 +156,34 @@ pub fn body_block_out(front: &[u8], block: usize, body: &[u8], output: &mut [u64
 /// Checks the smallest and the largest of a block's numbers, which were laid down, against what the contents say.
 pub fn body_check_range(front: &[u8], block: usize, values: &[u64]) -> Result<(), Refused> {
     asked!(columns::body_check_range(front.as_ptr(), front.len(), block, values.as_ptr(), values.len()) gives ())
+}
+
+/// The first body of a file, by its front. Of a file of no blocks its bytes say nothing.
+pub fn first_body(front: &[u8]) -> Body {
+    let mut body = Body::default();
+    unsafe { sys::columns::body_first(front.as_ptr(), front.len(), &mut body.number, &mut body.start, &mut body.length) };
+    body
+}
+
+/// The body behind a body of a file, by its front. Where the contents are right, the number behind the last body is the count of blocks, and it begins
+/// where the file ends; its bytes say nothing.
+pub fn next_body(front: &[u8], mut body: Body) -> Body {
+    unsafe { sys::columns::body_next(front.as_ptr(), front.len(), &mut body.number, &mut body.start, &mut body.length) };
+    body
+}
+
+/// Whether a search between two bounds opens a block, by the front of the file: the bodies of the other blocks need not be read.
+pub fn search_opens(front: &[u8], block: usize, low: u64, high: u64) -> bool {
+    unsafe { sys::columns::search_opens(front.as_ptr(), front.len(), block, low, high) }
+}
+
+/// Lists the rows of a block, whose 1,024 numbers were laid down, that lie between two bounds, both included. Values that are not 1,024 long are
+/// refused with 2, block 256 or a higher one, which no file has, with 12, and room that is too short with 14.
+pub fn search_rows(values: &[u64], block: usize, low: u64, high: u64, rows: &mut [u64]) -> Result<Found, Refused> {
+    let (mut found, mut opened) = (0, 0);
+    asked!(columns::search_rows(
+        values.as_ptr(), values.len(), block, low, high, rows.as_mut_ptr(), rows.len(), &mut found, &mut opened
+    ) gives Found { rows: found, opened })
 }
 
 /// Lists the places at which two blocks of 1,024 numbers differ, rising, and gives how many they are.

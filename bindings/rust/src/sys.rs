@@ -264,6 +264,15 @@ pub mod columns {
         #[link_name = "fascjoldi_body_check_range"]
         pub fn body_check_range(front: *const u8, front_length: usize, block: usize, values: *const u64, values_length: usize,
             place: &mut usize) -> usize;
+        #[link_name = "fascjoldi_body_first"]
+        pub fn body_first(front: *const u8, front_length: usize, number: &mut usize, start: &mut usize, length: &mut u32);
+        #[link_name = "fascjoldi_body_next"]
+        pub fn body_next(front: *const u8, front_length: usize, number: &mut usize, start: &mut usize, length: &mut u32);
+        #[link_name = "fascjoldi_search_opens"]
+        pub fn search_opens(front: *const u8, front_length: usize, block: usize, low: u64, high: u64) -> bool;
+        #[link_name = "fascjoldi_search_rows"]
+        pub fn search_rows(values: *const u64, values_length: usize, block: usize, low: u64, high: u64, rows: *mut u64,
+            rows_length: usize, found: &mut usize, opened: &mut usize, place: &mut usize) -> usize;
         #[link_name = "fascjoldi_block_differing"]
         pub fn block_differing(left: *const u64, left_length: usize, right: *const u64, right_length: usize, places: *mut u16,
             places_length: usize, count: &mut usize, place: &mut usize) -> usize;

@@ -114,6 +114,26 @@ fn a_file_is_written_read_and_compared() {
 }
 
 #[test]
+fn a_file_is_searched_by_its_front_and_one_body() {
+    let (mut values, mut file, mut rows) = ([7; 1024], [0; 400], [77; 1024]);
+    values[3] = 9;
+    assert_eq!(files::write(&values, &mut file), Ok(292));
+    let front = &file[..36];
+    let body = files::first_body(front);
+    assert_eq!((body.number, body.start, body.length), (0, 36, 256));
+    let behind = files::next_body(front, body);
+    assert_eq!((behind.number, behind.start), (1, 292));
+    assert!(files::search_opens(front, 0, 9, 100));
+    assert!(!files::search_opens(front, 0, 10, 100));
+    let found = files::search_rows(&values, 2, 8, 10, &mut rows).unwrap();
+    assert_eq!((found.rows, found.opened, rows[0], rows[1]), (1, 1, 2051, 77));
+    assert_eq!(files::search_rows(&values[1..], 2, 8, 10, &mut rows), refused(2, 0));
+    assert_eq!(files::search_rows(&values, 256, 8, 10, &mut rows), refused(12, 0));
+    assert_eq!(files::search_rows(&values, 2, 7, 10, &mut rows[1..]), refused(14, 0));
+    assert_eq!((rows[0], rows[1]), (2051, 77));
+}
+
+#[test]
 fn files_are_refused() {
     let mut output = [77; 1024];
     assert_eq!(files::check(&SEVENS_1[..3]), refused(8, 0));

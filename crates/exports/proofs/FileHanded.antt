@@ -5,11 +5,12 @@ use Prim.Native.Nat.{ℕ}
 use Rattle.contents.specs.declared.Entry.{Entry}
 use Rattle.contents.specs.declared.FileAnswer.{FileAnswer}
 use Rattle.contents.specs.declared.Range.{Range}
+use Rattle.bodywise.specs.declared.Body.{Body}
 use Rattle.files.specs.declared.Row.{Row}
 use Rattle.writer.specs.declared.Written.{Written}
 use Rattle.search.specs.declared.Found.{Found}
 use Rattle.compare.specs.declared.Compared.{Compared}
-use Rattle.exports.specs.FileHanded.{FileHanded, RowHanded, WrittenHanded, FoundHanded, ComparedHanded, EntryHanded, RangeHanded}
+use Rattle.exports.specs.FileHanded.{FileHanded, RowHanded, WrittenHanded, FoundHanded, ComparedHanded, EntryHanded, RangeHanded, BodyHanded}
 
 pub file-on : {a b : FileAnswer} {n p : ℕ} → a ≡ b → FileHanded a n p → FileHanded b n p
 file-on {n = n} {p = p} = subst (λ x. FileHanded x n p)
@@ -31,3 +32,6 @@ entry-on {k = k} {w = w} {z = z} {l = l} {r = r} = subst (λ x. EntryHanded x k 
 
 pub range-on : {a b : Range} {s l : ℕ} → a ≡ b → RangeHanded a s l → RangeHanded b s l
 range-on {s = s} {l = l} = subst (λ x. RangeHanded x s l)
+
+pub body-on : {a b : Body} {n s l : ℕ} → a ≡ b → BodyHanded a n s l → BodyHanded b n s l
+body-on {n = n} {s = s} {l = l} = subst (λ x. BodyHanded x n s l)

@@ -7,6 +7,7 @@ use Rattle.contents.specs.declared.Entry.{Entry}
 use Rattle.contents.specs.declared.FileAnswer.{FileAnswer}
 use Rattle.contents.specs.declared.Range.{Range}
 use Rattle.contents.specs.Answers.{numberOf, placeOf}
+use Rattle.bodywise.specs.declared.Body.{Body}
 use Rattle.files.specs.declared.Row.{Row}
 use Rattle.files.specs.declared.Row.the-variants.{Counted, Uncounted, Refused}
 use Rattle.files.specs.Rows as row
@@ -63,3 +64,9 @@ pub record EntryHanded (e : Entry) (kind width zero length reference : ℕ) : Ty
 pub record RangeHanded (r : Range) (smallest largest : ℕ) : Type 0 where
   pub its-smallest : smallest ≡ r .smallest
   pub its-largest : largest ≡ r .largest
+
+-- Of a body of the walk over a file its number, where it begins and how many bytes it has are handed over. The rest of its entry is asked for by its number.
+pub record BodyHanded (b : Body) (number start length : ℕ) : Type 0 where
+  pub its-number : number ≡ b .number
+  pub its-start : start ≡ b .at
+  pub its-length : length ≡ b .entry .length

@@ -2,12 +2,16 @@
 // front of a file, its contents, and one body at a time asks the ones that come after them.
 use access::NO_COUNT;
 use access::Words;
+use bodywise::Body;
+use bodywise::body_at;
+use bodywise::check_block;
+use bodywise::first;
+use bodywise::front_length;
+use bodywise::next;
+use bodywise::row_count;
 use compare::Compared;
 use compare::blocks_in_both;
-use compare::check_block;
 use compare::differing;
-use compare::front_length;
-use compare::row_count;
 use compare::same_range;
 use contents::Entry;
 use contents::FileAnswer;
@@ -22,6 +26,8 @@ use files::block_out;
 use files::row_at;
 use rewrite::rewrite;
 use search::Found;
+use search::opens;
+use search::rows_in;
 use search::search;
 use writer::Written;
 use writer::write;
@@ -33,11 +39,14 @@ ghost use Rattle.files.specs.Files.{fileTests, blockTests, blockLeaves};
 ghost use Rattle.files.specs.Rows.{rowOf};
 ghost use Rattle.writer.specs.Writer.{writtenOf, fileLeaves};
 ghost use Rattle.search.specs.Search.{foundOf, searchLeaves};
+ghost use Rattle.search.specs.Steps.{opensBy, listedOf, listedLeaves};
 ghost use Rattle.rewrite.specs.Rewrite.{rewrittenOf, rewriteLeaves};
 ghost use Rattle.canonical.specs.Canonical.{canonicalTests};
+ghost use Rattle.bodywise.specs.Cursor.{bodyAt, firstBody, nextBody};
+ghost use Rattle.bodywise.specs.Steps.{frontSize, blockTests as bodyTests, blockLeaves as bodyLeaves, rangeTests};
 ghost use Rattle.compare.specs.Changes.{comparedOf, differingLeaves};
-ghost use Rattle.compare.specs.Steps.{frontSize, blockTests as bodyTests, blockLeaves as bodyLeaves, rangeTests, sameRange};
-ghost use Rattle.exports.specs.FileHanded.{FileHanded, rowWords, RowHanded, WrittenHanded, FoundHanded, ComparedHanded, EntryHanded, RangeHanded};
+ghost use Rattle.compare.specs.Ranges.{sameRange};
+ghost use Rattle.exports.specs.FileHanded.{FileHanded, rowWords, RowHanded, WrittenHanded, FoundHanded, ComparedHanded, EntryHanded, RangeHanded, BodyHanded};
 
 // Checks a column file, whole.
 #[no_mangle]
@@ -238,7 +247,7 @@ pub extern "C" fn fascjoldi_body_block_out(
     ensures { λ r. ⌜ FileHanded (fileAnswer (bodyTests (now (front .entry)) block (now (body .entry)) (now (output .entry)))) r (now (place .exit)) ⌝ }
     ensures { λ _. ⌜ now (output .exit) ≡ bodyLeaves (now (front .entry)) block (now (body .entry)) (now (output .entry)) ⌝ }
 {
-    hand(compare::block_of(front, block, body, output), place)
+    hand(bodywise::block_of(front, block, body, output), place)
 }
 
 // Checks the smallest and the largest of a block's numbers, which were laid down, against what the contents say: 10 with the block where its entry
@@ -253,6 +262,67 @@ pub extern "C" fn fascjoldi_body_check_range(
     ensures { λ r. ⌜ FileHanded (fileAnswer (rangeTests (now (front .entry)) block (now (values .entry)))) r (now (place .exit)) ⌝ }
 {
     hand(check_block(front, block, values), place)
+}
+
+// Gives the first body of a file, by its front: its number, which is 0, where it begins, and how many bytes its entry says. Of a file of no blocks these
+// bytes say nothing.
+#[no_mangle]
+pub extern "C" fn fascjoldi_body_first(
+    front: &[u8],
+    number: &mut usize,
+    start: &mut usize,
+    length: &mut u32,
+)
+    ensures { λ _. ⌜ BodyHanded (firstBody (now (front .entry))) (now (number .exit)) (now (start .exit)) (now (length .exit)) ⌝ }
+{
+    hand_body(first(front), number, start, length);
+}
+
+// Goes on from a body of a file, whose number and beginning are lent, to the body behind it, by the front of the file. Where the contents are right, the number
+// behind the last body is the count of blocks, and the beginning is where the file ends; the bytes say nothing there.
+#[no_mangle]
+pub extern "C" fn fascjoldi_body_next(
+    front: &[u8],
+    number: &mut usize,
+    start: &mut usize,
+    length: &mut u32,
+)
+    ensures { λ _. ⌜ BodyHanded (nextBody (now (front .entry)) (bodyAt (now (front .entry)) (now (number .entry)) (now (start .entry)))) (now (number .exit)) (now (start .exit)) (now (length .exit)) ⌝ }
+{
+    hand_body(behind(front, *number, *start), number, start, length);
+}
+
+// Says whether a search between two bounds opens a block, by the front of the file: the bodies of the other blocks need not be read.
+#[no_mangle]
+pub extern "C" fn fascjoldi_search_opens(front: &[u8], block: usize, low: u64, high: u64) -> bool
+    ensures { λ r. ⌜ r ≡ opensBy (now (front .entry)) low high block ⌝ }
+{
+    opens(front, block, low, high)
+}
+
+// Lists the rows of a block, whose 1,024 numbers were laid down, that lie between two bounds, both included, and says how many they are, and that one
+// block was opened; refused, both are 0. Values that are not 1,024 long are refused with 2, a block that no file has, 256 or higher, with 12, and room that is
+// too short with 14. The room behind the rows stays as it was.
+#[no_mangle]
+pub extern "C" fn fascjoldi_search_rows(
+    values: &[u64],
+    block: usize,
+    low: u64,
+    high: u64,
+    rows: &mut [u64],
+    found: &mut usize,
+    opened: &mut usize,
+    place: &mut usize,
+) -> usize
+    ensures { λ r. ⌜ FoundHanded (listedOf (now (values .entry)) block low high (now (rows .entry))) r (now (found .exit)) (now (opened .exit)) (now (place .exit)) ⌝ }
+    ensures { λ _. ⌜ now (rows .exit) ≡ listedLeaves (now (values .entry)) block low high (now (rows .entry)) ⌝ }
+{
+    hand_found(
+        rows_in(values, block, low, high, rows),
+        found,
+        opened,
+        place,
+    )
 }
 
 // Lists the places at which two blocks of 1,024 numbers differ, rising, and gives how many they are; refused, the count is 0. The places behind
@@ -348,4 +418,20 @@ fn hand_range(range: Range, smallest: &mut u64, largest: &mut u64)
 {
     *smallest = range.smallest;
     *largest = range.largest;
+}
+
+// The body behind the one with this number that begins here.
+fn behind(front: &[u8], number: usize, start: usize) -> Body
+    ensures { λ r. ⌜ r ≡ nextBody (now (front .entry)) (bodyAt (now (front .entry)) number start) ⌝ }
+{
+    next(front, body_at(front, number, start))
+}
+
+// Hands over a body of the walk.
+fn hand_body(body: Body, number: &mut usize, start: &mut usize, length: &mut u32)
+    ensures { λ _. ⌜ BodyHanded body (now (number .exit)) (now (start .exit)) (now (length .exit)) ⌝ }
+{
+    *number = body.number;
+    *start = body.at;
+    *length = body.entry.length;
 }
