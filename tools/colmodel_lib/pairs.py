@@ -82,6 +82,34 @@ def pairs_refused():
     yield Pair("a run block of edition 2", good, column_file([frame(0, b"", 7), encodings.as_runs([7] * 1024)], 2))
 
 
+def pairs_both_refused():
+    """Both files are refused, each for every reason with every other, in either edition: only the left one is named."""
+    for left_way, right_way in ((1, 3), (3, 1)):
+        for left in sweep_reads.STEPS[1:9]:
+            for right in sweep_reads.STEPS[1:9]:
+                if left not in sweep_reads.cannot_fail(left_way) and right not in sweep_reads.cannot_fail(right_way):
+                    files = sweep_reads.faulty_file((left,), left_way), sweep_reads.faulty_file((right,), right_way)
+                    yield Pair(f"left: {left}, way {left_way}; right: {right}, way {right_way}", *files)
+
+
+def pairs_of_kinds(dice):
+    """A block of every kind that the edition has in each file, of which each kind meets each other one; a row of every block differs, or none does."""
+    blocks = [next(shapes.kind_1(dice, width)) for width in (3, 5, 9, 11)]
+    for editions in ((1, 1), (1, 2), (2, 1), (2, 2)):
+        for turn in range(4):
+            for change in (0, 1):
+                right = [changed(block, {97 * i: block[97 * i] + change}) for i, block in enumerate(blocks)]
+                sides = (kinds_in_turn(blocks, editions[0], 0), kinds_in_turn(right, editions[1], turn))
+                yield Pair(f"kinds {turn} on, editions {editions}, {change} in each block", *sides)
+
+
+def kinds_in_turn(blocks, edition, turn):
+    """A file of these blocks, each held in the kind behind that of the one before."""
+    kinds = (0, 1, 2, 3) if has_runs(edition) else (0, 1, 2)
+    held = [encodings.as_kind(kinds[(i + turn) % len(kinds)], block) for i, block in enumerate(blocks)]
+    return column_file(held, edition)
+
+
 def mixed_refusals():
     """Blocks of which the first says a range that is not the true one, and the last has a run index out of range."""
     bad = with_index(encodings.as_runs([7] * 1024), 5, 9)
@@ -109,6 +137,8 @@ def deliberate():
     yield from pairs_of_ways(dice)
     yield from pairs_of_lengths()
     yield from pairs_refused()
+    yield from pairs_both_refused()
+    yield from pairs_of_kinds(dice)
     yield from large_pairs(dice)
 
 
