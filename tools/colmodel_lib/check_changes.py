@@ -8,7 +8,7 @@ from .build import column_file, frame
 from .check_writes import unless
 from .sweep_reads import NO_BLOCKS, NO_BLOCKS_2, SEVENS, SEVENS_2
 
-COUNT = 200  # of the pairs that are looked at; more than the deliberate ones
+COUNT = 325  # of the pairs that are looked at; 76 more than the deliberate ones
 
 
 def worked_texts():
