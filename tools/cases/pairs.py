@@ -178,7 +178,7 @@ def some_accident(dice, data):
     if sort == 0:
         return None
     if sort == 1:
-        return mixed.reads.some_file(dice, (1, 2))[0]
+        return mixed.reads.some_file(dice)[0]
     if sort == 2:
         bad = with_index(encodings.as_runs([dice.below(9)] * 1024), dice.below(1024), 1 + dice.below(9))
         return column_file([frame(0, b"", dice.number()), bad], 1)

@@ -200,7 +200,7 @@ def canonical_lines(question):
     """What the model does with a canonical check: the file, and where it is readable what the writer has to choose
     from."""
     yield from contents_lines(question.a)
-    if not files.check(question.a, files.BOTH).number:
+    if not files.check(question.a).number:
         yield from candidate_lines(rewrite.all_values(question.a))
     yield answer_line(canonical.check(question.a))
 

@@ -9,7 +9,7 @@ The refusals stand in Item 14's order: those of the reader, which are those of t
 edition 1 file that it accepts; 17 with that block as the place.
 """
 from . import files, writer
-from .files import BOTH, Answer
+from .files import Answer
 
 CANONICAL = Answer(0, 0, "the file is what the writer would give")
 EDITION = 2
@@ -36,7 +36,7 @@ def blocks_wrong(data):
 
 def check(data):
     """The call."""
-    answer = files.check(data, BOTH)
+    answer = files.check(data)
     if answer.number:
         return answer
     if files.edition_of(data) != EDITION:

@@ -10,14 +10,14 @@ left X Y` or `refused right X Y`, with the number and the place of the reader's 
 and 0. Each line ends with a newline.
 """
 from . import files, rewrite
-from .files import BOTH, Answer
+from .files import Answer
 
 NOT_OPENED = Answer(8, 0, "the file does not open")
 
 
 def answer_to(data):
     """The reader's answer to a file; None is one that will not open."""
-    return NOT_OPENED if data is None else files.check(data, BOTH)
+    return NOT_OPENED if data is None else files.check(data)
 
 
 def refusal(left, right):

@@ -5,7 +5,6 @@ begin with, or None where there is no complaint. The layout of a line and the se
 time; every number in them is the models'.
 """
 from . import canonical, files, rewrite, search
-from .files import BOTH
 
 HEADING = (
     "block  kind         width             reference              smallest               largest"
@@ -55,7 +54,7 @@ def refused(answer):
 
 
 def check(data, name=""):
-    answer = files.check(data, BOTH)
+    answer = files.check(data)
     if answer.number:
         return named(name, [refusal(answer)]), 2, None
     return named(name, [f"ok, {counts(data)}"]), 0, None
@@ -70,7 +69,7 @@ def block_line(data, i):
 
 
 def show(data, name=""):
-    answer = files.check(data, BOTH)
+    answer = files.check(data)
     if answer.number:
         return refused(answer)
     n = files.count_of(data)
@@ -80,7 +79,7 @@ def show(data, name=""):
 
 
 def rows(data, first=None, last=None):
-    answer = files.check(data, BOTH)
+    answer = files.check(data)
     if answer.number:
         return refused(answer)
     values = rewrite.all_values(data)
@@ -109,7 +108,7 @@ def find(data, low, high, name=""):
 
 
 def is_canonical(data, name=""):
-    answer = files.check(data, BOTH)
+    answer = files.check(data)
     if answer.number:
         return refused(answer)
     answer = canonical.check(data)

@@ -11,7 +11,7 @@ A column file, little-endian throughout:
     kind 1, frame         width 0 to 64, any reference    128·W bytes: the packed words
     kind 2, differences   width 0 to 64, reference 0      128 + 128·W bytes: sixteen base words, the packed words
     kind 3, runs          width 0, reference 0            2048 + 8·n bytes: 1,024 indices u16, n values (1 to 1,024);
-                                                          from Item 11 on in edition 1 alone
+                                                          in edition 1 alone, by Item 11
 
 The tests stand in Item 1's own order, which is not the order of their numbers: CONTENTS_TESTS has those that look at
 the contents and the lengths, and BODY_TESTS those that look into bodies, 13 and then 15. Each of these goes through all
@@ -25,10 +25,12 @@ import functools
 import struct
 from typing import NamedTuple
 
-from . import layout, switches
+from . import layout
 from .layout import WRAP
 
+EDITIONS = (1, 2)  # that are read
 PACKED, FRAME, DIFFERENCES, RUNS = range(4)
+EDITIONS_OF_RUNS = (1,)  # in which kind 3 is read, by Item 11
 KINDS = ("packed", "frame", "differences", "runs")
 MOST_BLOCKS = 256
 HEAD = struct.Struct("<HH")
@@ -56,15 +58,6 @@ class Entry(NamedTuple):
     largest: int | None = None  # in edition 2
 
 
-class Rules(NamedTuple):
-    """What a call reads."""
-
-    editions: tuple
-    runs_in_2: bool
-
-
-READER = Rules(switches.EDITIONS, switches.RUNS_IN_EDITION_2)  # of the calls of Item 1
-BOTH = Rules((1, 2), switches.RUNS_IN_EDITION_2)  # of the calls that come with Item 9 and later
 ACCEPTED = Answer(0, 0, "the file is accepted")
 
 
@@ -134,20 +127,20 @@ def bodies_of(data):
 # The tests of the contents. Each may rely on those before it, and gives None where the file passes.
 
 
-def head_short(data, rules):
+def head_short(data):
     if len(data) < HEAD.size:
         return Answer(8, 0, f"the file has {len(data)} bytes, and edition and number of blocks take 4")
 
 
-def head_wrong(data, rules):
-    if edition_of(data) not in rules.editions:
-        read = " and ".join(map(str, rules.editions))
+def head_wrong(data):
+    if edition_of(data) not in EDITIONS:
+        read = " and ".join(map(str, EDITIONS))
         return Answer(9, 0, f"the edition is {edition_of(data)}, and only {read} is read")
     if count_of(data) > MOST_BLOCKS:
         return Answer(9, 0, f"the file says that it has {count_of(data)} blocks, and {MOST_BLOCKS} is the most")
 
 
-def entries_short(data, rules):
+def entries_short(data):
     if len(data) < contents_size(data):
         return Answer(8, 0, f"the entries go to byte {contents_size(data)}, and the file has {len(data)} bytes")
 
@@ -159,12 +152,12 @@ def lengths_for(kind, width):
     return (128 * width + (BASE_BYTES if kind == DIFFERENCES else 0),)
 
 
-def entry_fault(entry, edition=1, rules=READER):
+def entry_fault(entry, edition=1):
     """What of an entry is not as laid out, in words; None where all of it is."""
     if entry.kind > RUNS:
         return f"the kind is {entry.kind}, and there are only 0 to 3"
     name = f"kind {entry.kind} ({KINDS[entry.kind]})"
-    if entry.kind == RUNS and edition == 2 and not rules.runs_in_2:
+    if entry.kind == RUNS and edition not in EDITIONS_OF_RUNS:
         return f"{name} is read in edition 1 alone"
     if entry.kind == RUNS and entry.width != 0:
         return f"the width is {entry.width}, and {name} asks for 0"
@@ -183,19 +176,19 @@ def entry_fault(entry, edition=1, rules=READER):
     return None
 
 
-def entry_wrong(data, rules):
+def entry_wrong(data):
     for i, entry in enumerate(entries_of(data)):
-        fault = entry_fault(entry, edition_of(data), rules)
+        fault = entry_fault(entry, edition_of(data))
         if fault:
             return Answer(10, i, f"entry {i}: {fault}")
 
 
-def bodies_short(data, rules):
+def bodies_short(data):
     if len(data) < end_of(data):
         return Answer(8, 0, f"the bodies go to byte {end_of(data)}, and the file has {len(data)} bytes")
 
 
-def bytes_left(data, rules):
+def bytes_left(data):
     if len(data) > end_of(data):
         return Answer(11, 0, f"the last body ends at byte {end_of(data)}, and the file has {len(data)} bytes")
 
@@ -296,9 +289,9 @@ def ranges_wrong(data, blocks):
 BODY_TESTS = (runs_wrong, ranges_wrong)
 
 
-def contents_answer(data, rules):
+def contents_answer(data):
     """8 to 11, or None."""
-    return next(filter(None, (test(data, rules) for test in CONTENTS_TESTS)), None)
+    return next(filter(None, (test(data) for test in CONTENTS_TESTS)), None)
 
 
 def bodies_answer(data, blocks):
@@ -316,9 +309,9 @@ def words_read(entry, place):
 # The three calls. What two of them give beside the answer is None where the call is refused.
 
 
-def check(data, rules=READER):
+def check(data):
     """Item 1's check of the whole file: never 2 and never 12."""
-    return contents_answer(data, rules) or bodies_answer(data, range(count_of(data))) or ACCEPTED
+    return contents_answer(data) or bodies_answer(data, range(count_of(data))) or ACCEPTED
 
 
 def block_out(data, block, room):

@@ -8,7 +8,7 @@ The refusals stand in Item 11's order: those of the reader, which are those of t
 output that is shorter than the new file. The output is then unchanged; bytes past the new file stay.
 """
 from . import files, writer
-from .files import BOTH, Answer
+from .files import Answer
 
 REWRITTEN = Answer(0, 0, "the file is rewritten")
 EDITION = 2
@@ -26,7 +26,7 @@ def rewritten(data):
 
 def rewrite(data, room):
     """The call, for an output of that many bytes: the answer, and the new file's bytes, None where it is refused."""
-    answer = files.check(data, BOTH)
+    answer = files.check(data)
     if answer.number:
         return answer, None
     new = rewritten(data)

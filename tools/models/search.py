@@ -11,7 +11,7 @@ with the lowest of them as the place; 14 where the room is too short for the row
 room, and what is past them stays; a refused search leaves all of it.
 """
 from . import files
-from .files import BOTH, Answer
+from .files import Answer
 
 FOUND = Answer(0, 0, "the rows are listed")
 
@@ -39,7 +39,7 @@ def rows_of(data, blocks, low, high):
 
 def search(data, low, high, room):
     """The call, for a room of so many rows: the answer, and the rows, None where it is refused."""
-    answer = files.contents_answer(data, BOTH)
+    answer = files.contents_answer(data)
     if answer:
         return answer, None
     blocks = opened(data, low, high)

@@ -22,8 +22,8 @@ from typing import NamedTuple
 from . import build, files, layout
 from .files import DIFFERENCES, FRAME, PACKED, Answer
 from .layout import WRAP
-from .switches import EDITION_WRITTEN
 
+EDITION = 2  # that is written
 WRITTEN = Answer(0, 0, "the file is written")
 
 
@@ -105,12 +105,12 @@ def blocks_of(values):
     return [values[start : start + 1024] for start in range(0, len(values), 1024)]
 
 
-def file_of(values, edition=EDITION_WRITTEN):
+def file_of(values, edition=EDITION):
     """The bytes of the file of these numbers, whose count is one that is taken."""
     return build.column_file([block_of(block) for block in blocks_of(values)], edition)
 
 
-def bound(values, edition=EDITION_WRITTEN):
+def bound(values, edition=EDITION):
     """The room that a file needs at most. It decides nothing."""
     return files.contents_length(edition, 0) + (8192 + files.ENTRIES[edition].size) * (len(values) // 1024)
 

@@ -10,8 +10,7 @@ from cases.sweeps.canonicals import DIFFERS
 from cases.sweeps.reads import NO_BLOCKS, NO_BLOCKS_2, SEVENS, SEVENS_2, WAYS
 from models import build, canonical, files, rewrite, writer
 from models.build import column_file, frame
-from models.files import BOTH, DIFFERENCES, FRAME, PACKED
-from models.switches import RUNS_IN_EDITION_2
+from models.files import DIFFERENCES, FRAME, PACKED
 from .common import Checked, all_three, expected_of, of_calls, questions_of, sample, swept, unless
 
 NUMBERS = {0, 8, 9, 10, 11, 13, 15, 17}  # that the call can give
@@ -42,7 +41,7 @@ def worked_checks():
         ("sevens as kind 0", column_file([sevens, encodings.as_packed([7] * 1024)], 2), (17, 1)),
         ("sevens as kind 2", column_file([encodings.as_differences([7] * 1024)], 2), (17, 0)),
         ("sevens from 6", column_file([frame(1, b"\xff" * 128, 6)], 2), (17, 0)),
-        ("sevens as kind 3", column_file([sevens, runs], 2), (17, 1) if RUNS_IN_EDITION_2 else (10, 1)),
+        ("sevens as kind 3", column_file([sevens, runs], 2), (10, 1)),
         ("sevens as kind 3 in edition 1", column_file([sevens, runs], 1), (9, 0)),
         ("rising lanes", column_file([encodings.as_differences(rising)], 2), (0, 0)),
         ("rising lanes from others", column_file([encodings.as_differences(rising, [0, *lower])], 2), (17, 0)),
@@ -67,7 +66,7 @@ def as_the_writer_gives(name, asked):
     differs where the blocks are laid side by side."""
     for question, outcome in asked:
         data = question.a
-        answer = files.check(data, BOTH)
+        answer = files.check(data)
         said = f"{name}, {question.name}: number {outcome.number}, place {outcome.place}"
         if answer.number:
             yield from unless(outcome[:2] == answer[:2], f"{said}, and the reader gives {answer}")

@@ -7,8 +7,7 @@ from cases.stream import answered
 from cases.sweeps.reads import NO_BLOCKS_2, SEVENS, SEVENS_2
 from models import build, files
 from models.build import column_file
-from models.files import BOTH, TOP
-from models.switches import EDITIONS, RUNS_IN_EDITION_2
+from models.files import TOP
 from .common import Checked, questions_of, sample, unless
 
 
@@ -33,7 +32,6 @@ def worked_answers():
     sevens, fives = build.frame(0, b"", 7), build.packed(3, build.packed_bytes(3, first_with(2)))
     steps = build.differences(0, build.words([9] * 15 + [TOP]), b"")
     runs = build.runs([1] * 1023 + [2], [0, 6, 4, TOP])
-    in_2 = (0, 0) if RUNS_IN_EDITION_2 else (10, 0)
     for name, blocks, expected in (
         ("no blocks", [], (0, 0)),
         ("sevens", [sevens], (0, 0)),
@@ -45,18 +43,14 @@ def worked_answers():
         ("2 and fives, smallest 6", [sevens, fives.but(smallest=6, largest=5)], (10, 1)),
         ("nines and 2^64 - 1", [steps.but(smallest=9, largest=TOP)], (0, 0)),
         ("nines and 2^64 - 1, largest 9", [sevens, steps.but(smallest=9, largest=9)], (15, 1)),
-        ("sixes and a 4", [runs.but(smallest=4, largest=6)], in_2),
-        ("sixes and a 4, with the range of the list", [runs.but(smallest=0, largest=TOP)], in_2 if in_2[0] else (15, 0)),
+        ("sixes and a 4", [runs.but(smallest=4, largest=6)], (10, 0)),
+        ("sixes and a 4, with the range of the list", [runs.but(smallest=0, largest=TOP)], (10, 0)),
         ("two ranges that lie", [sevens, sevens.but(largest=8), sevens.but(smallest=6)], (15, 1)),
     ):
-        got = files.check(column_file(blocks, 2), BOTH)[:2]
+        got = files.check(column_file(blocks, 2))[:2]
         yield from unless(got == expected, f"edition 2, {name}: the check gives {got}")
     bad = build.with_index(runs, 9, 4).but(smallest=4, largest=6)
-    if RUNS_IN_EDITION_2:
-        for blocks, expected in (([sevens.but(largest=8), bad], (13, 1)), ([bad, sevens.but(largest=8)], (13, 0))):
-            got = files.check(column_file(blocks, 2), BOTH)[:2]
-            yield from unless(got == expected, f"edition 2, a range and an index: the check gives {got}")
-    got = files.check(column_file([runs, bad], 1), BOTH)[:2]
+    got = files.check(column_file([runs, bad], 1))[:2]
     yield from unless(got == (13, 1), f"edition 1, an index: the check gives {got}")
 
 
@@ -72,11 +66,10 @@ def worked_lengths():
         (b"\x02\x01" + SEVENS_2[2:], (9, 0)),
         (SEVENS_2[:2] + b"\x01\x01" + SEVENS_2[4:], (9, 0)),
     ):
-        got = files.check(data, BOTH)[:2]
+        got = files.check(data)[:2]
         yield from unless(got == expected, f"the file {data[:8].hex(' ')} ...: the check gives {got}")
     got = files.check(SEVENS_2)[:2]
-    wanted = (0, 0) if 2 in EDITIONS else (9, 0)
-    yield from unless(got == wanted, f"the sevens of edition 2: the reader's check gives {got}")
+    yield from unless(got == (0, 0), f"the sevens of edition 2: the reader's check gives {got}")
 
 
 def wrong_ones_told(sample):

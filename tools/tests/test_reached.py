@@ -4,14 +4,12 @@ from cases.stream import BLOCK_OUT, CALLS, CANONICAL, CHECK, FOR_PACK_BLOCKS, NO
 from cases.stream import TRICKLE, TRICKLE_FROM, TRICKLES, UNPACK_BLOCKS, WRITE
 from models import files
 from models.files import DIFFERENCES, FRAME, PACKED, RUNS
-from models.switches import EDITIONS
 from .common import OF_READER, Checked, sample, swept, thrown, unless
 
-OF_EDITION_2 = {15} if 2 in EDITIONS else set()
 GIVEN = {  # The numbers that each call can give, from Items 1, 3, 7, 9, 10, 11 and 14.
-    CHECK: {0, 8, 9, 10, 11, 13} | OF_EDITION_2,
-    BLOCK_OUT: {0, 2, 8, 9, 10, 11, 12, 13} | OF_EDITION_2,
-    ROW_LOOKUP: {0, 8, 9, 10, 11, 12, 13} | OF_EDITION_2,
+    CHECK: {0, 8, 9, 10, 11, 13, 15},
+    BLOCK_OUT: {0, 2, 8, 9, 10, 11, 12, 13, 15},
+    ROW_LOOKUP: {0, 8, 9, 10, 11, 12, 13, 15},
     WRITE: {0, 2, 14},
     SEARCH: {0, 8, 9, 10, 11, 13, 14, 15},
     REWRITE: {0, 8, 9, 10, 11, 13, 14, 15},
@@ -22,7 +20,7 @@ GIVEN = {  # The numbers that each call can give, from Items 1, 3, 7, 9, 10, 11 
     TRICKLE_FROM: {0, 2, 16},
 }
 # Numbers that the sample may leave to other calls and to the sweep, since there a block takes much room.
-LEFT_TO_OTHERS = {TRICKLE_FROM: {16}, BLOCK_OUT: {8, 9, 11} if 2 in EDITIONS else set()}
+LEFT_TO_OTHERS = {TRICKLE_FROM: {16}, BLOCK_OUT: {8, 9, 11}}
 COUNTS = {  # The counts of words that a row lookup can give in each kind of block, from Item 5.
     PACKED: {0, 1, 2},
     FRAME: {0, 1, 2},
@@ -40,8 +38,8 @@ def read_at(question):
 
 def what_is_reached(name, asked, by_rows=False):
     """Every number that a call can give, and no other; every kind is read and written; every count that a kind can
-    give is given; outputs change and stay. Blocks come out at the widths at the edges; with by_rows, kinds 0 and 1 may
-    have a row lookup there in the place of a block out, and from Item 9 on every kind may."""
+    give is given; outputs change and stay. Blocks come out at the widths at the edges; with by_rows, a kind may
+    have a row lookup there in the place of a block out."""
     reached = {op: set() for op in GIVEN}
     kinds, written, counts = set(), set(), {kind: set() for kind in COUNTS}
     for question, outcome in asked:
@@ -52,7 +50,7 @@ def what_is_reached(name, asked, by_rows=False):
         if question.op == ROW_LOOKUP and not outcome.number:
             kind, _ = read_at(question)
             counts[kind].add(outcome.reference)
-            if by_rows and (kind in (PACKED, FRAME) or 2 in EDITIONS):
+            if by_rows:
                 kinds.add(read_at(question))
         if question.op == WRITE and not outcome.number:
             written |= {entry.kind for entry in files.entries_of(outcome.c)}

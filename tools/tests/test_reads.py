@@ -8,7 +8,6 @@ from cases.stream import answered
 from cases.sweeps.reads import SEVENS
 from models import build, files, layout
 from models.build import column_file
-from models.switches import EDITIONS, RUNS_IN_EDITION_2
 from .common import OF_READER, Checked, expected_of, questions_of, swept, unless
 
 
@@ -178,9 +177,7 @@ def order_of_refusals(asked):
             pairs.add(tuple(int(step.split()[0]) for step in steps))
     wanted = {(2, 8), (2, 9), (2, 10), (2, 11), (2, 13), (2, 12), (8, 9), (9, 8), (8, 10), (10, 8), (8, 13), (8, 12)}
     wanted |= {(9, 10), (9, 11), (9, 13), (9, 12), (10, 11), (10, 13), (10, 12), (11, 13), (11, 12), (13, 12)}
-    if 2 in EDITIONS:
-        wanted |= {(2, 15), (8, 15), (9, 15), (10, 15), (11, 15), (15, 12)}
-        wanted |= {(13, 15)} if RUNS_IN_EDITION_2 else set()
+    wanted |= {(2, 15), (8, 15), (9, 15), (10, 15), (11, 15), (15, 12)}
     yield from unless(pairs == wanted, f"the pairs of refusals are {sorted(pairs)}")
 
 

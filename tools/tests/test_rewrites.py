@@ -9,8 +9,7 @@ from cases.stream import REWRITE, Question, answered
 from cases.sweeps.reads import NO_BLOCKS, NO_BLOCKS_2, SEVENS, SEVENS_2, has_runs
 from models import build, files, rewrite, writer
 from models.build import column_file, frame
-from models.files import BOTH, DIFFERENCES, FRAME, PACKED, RUNS
-from models.switches import RUNS_IN_EDITION_2
+from models.files import DIFFERENCES, FRAME, PACKED, RUNS
 from .common import Checked, all_three, expected_of, of_calls, questions_of, sample, swept, unless
 
 NUMBERS = {0, 8, 9, 10, 11, 13, 14, 15}  # that the call can give
@@ -29,7 +28,6 @@ def worked_rewrites():
     sevens = [7] * 1024
     runs = build.runs([0] * 1023 + [1], [7, 7, 9])
     bad = build.with_index(runs, 5, 3)
-    in_2 = (0, 0, SEVENS_2) if RUNS_IN_EDITION_2 else (10, 0, None)
     for name, data, room, expected in (
         ("no blocks", NO_BLOCKS, 4, (0, 0, NO_BLOCKS_2)),
         ("no blocks", NO_BLOCKS, 9, (0, 0, NO_BLOCKS_2)),
@@ -45,7 +43,7 @@ def worked_rewrites():
         ("sevens as kind 2", column_file([encodings.as_differences(sevens)], 1), 37, (0, 0, SEVENS_2)),
         ("sevens as kind 3", column_file([runs], 1), 36, (0, 0, SEVENS_2)),
         ("sevens as kind 3", column_file([runs], 1), 35, (14, 0, None)),
-        ("sevens as kind 3 of edition 2", column_file([runs], 2), 36, in_2),
+        ("sevens as kind 3 of edition 2", column_file([runs], 2), 36, (10, 0, None)),
         ("a bad index", column_file([runs, bad], 1), 0, (13, 1, None)),
         ("another range", column_file([frame(0, b"", 7), frame(0, b"", 7).but(largest=8)], 2), 0, (15, 1, None)),
         ("cut", SEVENS[:19], 40, (8, 0, None)),
@@ -75,7 +73,7 @@ def reads_back(name, asked):
     for them, and comes out of a rewrite as it is."""
     for old, new in all_rewritten(asked).items():
         said = f"{name}: the file {old[:20].hex(' ')} ... of {len(old)} bytes"
-        answer = files.check(new, BOTH)
+        answer = files.check(new)
         if answer.number or files.edition_of(new) != 2:
             yield f"{said}: the new file is not accepted: {answer.why}"
             continue
@@ -147,7 +145,6 @@ def what_is_asked(asked):
             sizes.add((len(new) > len(question.a)) - (len(new) < len(question.a)))
     new_kinds = PACKED, FRAME, DIFFERENCES
     old = [(1, kind) for kind in (*new_kinds, RUNS)] + [(2, kind) for kind in new_kinds]
-    old += [(2, RUNS)] if has_runs(2) else []
     wanted = {(*kind, new) for kind in old for new in new_kinds}
     yield from unless(wanted <= turns, f"no rewrite has edition, old and new kind {sorted(wanted - turns)}")
     wanted = {(edition, more) for edition in (1, 2) for more in (-1, 0, 1)}

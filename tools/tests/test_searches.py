@@ -6,10 +6,9 @@ looked at, and last come the searches of wrong/searches.py.
 """
 from cases import encodings, sweeps, wrong
 from cases.stream import SEARCH, Question, answered
-from cases.sweeps.reads import has_runs
 from models import build, files, search
 from models.build import column_file, frame, packed
-from models.files import BOTH, TOP, words_of
+from models.files import TOP, words_of
 from .common import Checked, all_three, expected_of, of_calls, questions_of, sample, swept, unless
 
 NUMBERS = {0, 8, 9, 10, 11, 13, 14, 15}  # that the call can give
@@ -70,8 +69,8 @@ def as_worked(name, data, low, high, room, expected):
 
 
 def worked_lies():
-    """Sevens whose entry says 20 to 30, behind sevens whose entry is right; and a run block with an index out of range
-    whose entry says 40 to 50. In edition 1 there is no entry to say so."""
+    """Sevens whose entry says 20 to 30, behind sevens whose entry is right; and a run block with an index out of range,
+    which is no block of edition 2, and which edition 1 finds whatever the bounds are."""
     lie, bad = frame(0, b"", 7).but(smallest=20, largest=30), build.runs([0] * 1023 + [1], [45])
     true, runs = frame(0, b"", 7), bad.but(smallest=40, largest=50)
     rows = list(range(1024))
@@ -86,16 +85,9 @@ def worked_lies():
         ([true, lie], 0, 19, 1023, (14, 0, [])),
         ([true, true.but(smallest=6), true.but(largest=8)], 8, 8, 0, (15, 2, [])),
         ([true, true.but(smallest=6), true.but(largest=8)], 7, 7, 0, (15, 1, [])),
-        ([true, runs, lie], 31, 39, 0, (0, 0, [])),
-        ([true, runs, lie], 30, 39, 0, (15, 2, [])),
-        ([true, runs, lie], 30, 40, 0, (13, 1, [])),
-        ([lie, true, runs], 20, 50, 0, (13, 2, [])),
-        ([lie, true, runs], 50, 20, 0, (0, 0, [])),
     ):
-        if has_runs(2) or runs not in blocks:
-            yield from as_worked("ranges that lie", column_file(blocks, 2), low, high, room, expected)
-    if not has_runs(2):
-        yield from as_worked("runs in edition 2", column_file([true, runs], 2), 9, 3, 0, (10, 1, []))
+        yield from as_worked("ranges that lie", column_file(blocks, 2), low, high, room, expected)
+    yield from as_worked("runs in edition 2", column_file([true, runs], 2), 9, 3, 0, (10, 1, []))
     for low, high in ((0, 0), (45, 45), (9, 3)):
         yield from as_worked("edition 1", column_file([true, bad], 1), low, high, 0, (13, 1, []))
 
@@ -127,7 +119,7 @@ def without_skipping(asked):
     """On a file that the full check accepts, the rows are those that a look at every row finds."""
     found = {}
     for question, outcome in asked:
-        if outcome.number or files.check(question.a, BOTH).number:
+        if outcome.number or files.check(question.a).number:
             continue
         if question.a not in found:
             blocks = range(files.count_of(question.a))
@@ -156,7 +148,7 @@ def numbers_reached(name, asked):
     if name == "sweep":
         for edition in (1, 2):
             found = {o.number for q, o in asked if len(q.a) > 3 and files.edition_of(q.a) == edition} | {8, 9}
-            wanted = NUMBERS - ({15} if edition == 1 else set() if has_runs(2) else {13})
+            wanted = NUMBERS - ({15} if edition == 1 else {13})
             yield from unless(found == wanted, f"{name}: edition {edition} gives the numbers {sorted(found)}")
 
 
@@ -173,7 +165,6 @@ def order_of_refusals(swept):
                 pairs.add(tuple(int(step.split()[0]) for step in steps))
     wanted = {(8, 9), (9, 8), (8, 10), (10, 8), (8, 13), (8, 15), (8, 14), (9, 10), (9, 11), (9, 13), (9, 15), (9, 14)}
     wanted |= {(10, 11), (10, 13), (10, 15), (10, 14), (11, 13), (11, 15), (11, 14), (13, 14), (15, 14)}
-    wanted |= {(13, 15)} if has_runs(2) else set()
     yield from unless(pairs == wanted, f"the pairs of a search's refusals are {sorted(pairs ^ wanted)} off")
 
 

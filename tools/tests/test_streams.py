@@ -4,12 +4,11 @@ import struct
 
 from cases.ask import ask_row
 from cases.spoiled import spoiled
-from cases.stream import CANONICAL, FOR_PACK_BLOCKS, REWRITE, ROW_LOOKUP, SEARCH, TRICKLE_FROM, WRITE, Outcome, Question
+from cases.stream import FOR_PACK_BLOCKS, REWRITE, ROW_LOOKUP, SEARCH, TRICKLE_FROM, WRITE, Outcome, Question
 from cases.stream import answered, cases, record, replay
 from cases.sweeps.reads import SEVENS, SEVENS_2
 from models import build
 from models.build import column_file
-from models.switches import EDITION_WRITTEN, EDITIONS, RUNS_IN_EDITION_2
 from .common import Checked, questions_of, sample, unless
 
 
@@ -34,9 +33,8 @@ def streams(questions):
     question = ask_row("the sevens", SEVENS, 1024)
     same = record(question, answered(question)) == head + SEVENS
     yield from unless(same, "a record of a refused row lookup has another form")
-    length, written = {1: (20, SEVENS), 2: (36, SEVENS_2)}[EDITION_WRITTEN]
-    head = struct.pack("<BBHB3xQQQQ4I", WRITE, 64, 0, 0, 0, length, 0, 0, 1024, 0, 39, 0)
-    numbers, before, after = struct.pack("<1024Q", *[7] * 1024), b"\xa5" * 39, written.ljust(39, b"\xa5")
+    head = struct.pack("<BBHB3xQQQQ4I", WRITE, 64, 0, 0, 0, 36, 0, 0, 1024, 0, 39, 0)
+    numbers, before, after = struct.pack("<1024Q", *[7] * 1024), b"\xa5" * 39, SEVENS_2.ljust(39, b"\xa5")
     question = Question(WRITE, "the sevens", numbers, c=before)
     same = record(question, answered(question)) == head + numbers + before + after
     yield from unless(same, "a record of a write has another form")
@@ -71,10 +69,8 @@ def streams(questions):
 
 
 def size_of_sample(asked):
-    """The sample of the calls that there are by then is below a megabyte."""
-    later = {REWRITE, CANONICAL} if RUNS_IN_EDITION_2 else set()
-    later |= {SEARCH} if 2 not in EDITIONS else set()
-    size = sum(len(record(question, outcome)) for question, outcome in asked if question.op not in later)
+    """The sample is below a megabyte."""
+    size = sum(len(record(question, outcome)) for question, outcome in asked)
     yield from unless(size < 1_000_000, f"the sample has {size} bytes, and is to be below a megabyte")
 
 

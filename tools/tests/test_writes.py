@@ -11,10 +11,9 @@ from cases.shapes import TOP, along_rows
 from cases.stream import BLOCK_OUT, CHECK, ROW_LOOKUP, WRITE, Question, answered
 from models import build, files, layout, writer
 from models.files import DIFFERENCES, FRAME, PACKED
-from models.switches import EDITION_WRITTEN
 from .common import Checked, questions_of, sample, swept, unless
 
-ENTRY_BYTES, MOST_BYTES = {1: (16, 8208), 2: (32, 8224)}[EDITION_WRITTEN]  # of a block's entry, and of all of it
+ENTRY_BYTES, MOST_BYTES = 32, 8224  # of a block's entry, and of all of it
 
 
 # Files by hand. Each block has its numbers, the first eight bytes of its entry, its reference and its body.
@@ -84,17 +83,16 @@ WORKED = {
 
 
 def by_hand(blocks):
-    """The file of some of these blocks, in the edition that is written."""
-    head = bytes((EDITION_WRITTEN, 0, len(blocks), 0))
+    """The file of some of these blocks, in edition 2."""
+    head = bytes((2, 0, len(blocks), 0))
     entries = []
     for values, fields, reference, _ in blocks:
-        in_edition_2 = (sorted(values)[0], sorted(values)[-1]) if EDITION_WRITTEN == 2 else ()
-        entries.append(bytes.fromhex(fields) + build.words((reference, *in_edition_2)))
+        entries.append(bytes.fromhex(fields) + build.words((reference, sorted(values)[0], sorted(values)[-1])))
     return head + b"".join(entries) + b"".join(body for *_, body in blocks)
 
 
 def worked_writes():
-    none = bytes((EDITION_WRITTEN, 0, 0, 0))
+    none = bytes((2, 0, 0, 0))
     yield from unless(writer.write([], 4)[1] == none, "no numbers: not the file of no blocks")
     for name, block in WORKED.items():
         data = by_hand([block])
@@ -204,13 +202,12 @@ def reads_back(written):
     for name, numbers, data in taken:
         blocks = len(numbers) // 8192
         yield from unless(files.count_of(data) == blocks, f"{name}: the file has {files.count_of(data)} blocks")
-        yield from unless(files.edition_of(data) == EDITION_WRITTEN, f"{name}: the file has another edition")
+        yield from unless(files.edition_of(data) == 2, f"{name}: the file has another edition")
         yield from unless(len(data) <= 4 + MOST_BYTES * blocks, f"{name}: the file is longer than it may be")
     for name, values, entry, body in blocks_written(taken):
         yield from unless(files.block_values(entry, body) == list(values), f"{name}: other numbers are read")
-        if EDITION_WRITTEN == 2:
-            ends = sorted(values)[:: len(values) - 1]
-            yield from unless([entry.smallest, entry.largest] == ends, f"{name}: smallest and largest are not {ends}")
+        ends = sorted(values)[:: len(values) - 1]
+        yield from unless([entry.smallest, entry.largest] == ends, f"{name}: smallest and largest are not {ends}")
         for kind, width in preferred(entry):
             said = f"{name} has kind {entry.kind} width {entry.width}, and kind {kind} width {width} restores it"
             yield from unless(not restores(kind, width, values), said)

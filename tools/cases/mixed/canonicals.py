@@ -27,7 +27,7 @@ def held_file(dice):
 
 def case(seed, i):
     dice = Dice("canonical", seed, i)
-    data = held_file(dice) if dice.below(4) else reads.some_file(dice, (1, 2))[0]
+    data = held_file(dice) if dice.below(4) else reads.some_file(dice)[0]
     return ask_canonical(f"canonical {seed} case {i}", data)
 
 

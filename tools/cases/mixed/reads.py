@@ -8,7 +8,6 @@ from cases.stream import BLOCK_OUT, CHECK, ROW_LOOKUP, Question
 from cases.sweeps.reads import has_runs
 from models import build, files, writer
 from models.build import any_block, any_runs, column_file, with_index
-from models.switches import EDITIONS
 from . import writes
 
 EDGES = (0, 1, 2, 3, 63, 64, 65, 255, 256, 257, 1024, 2048, 65535, 2**31, 2**32 - 1, 2**63, 2**64 - 1)
@@ -130,9 +129,9 @@ TO_BLOCKS[2] = (*TO_BLOCKS[1], other_range, other_range, other_range)
 TO_BYTES = (other_byte, other_byte, cut_off, added, other_head)
 
 
-def some_file(dice, editions=EDITIONS):
+def some_file(dice):
     """A file and the number of its blocks; not quite half of the files have an accident, and some of these two."""
-    edition = dice.pick(editions) if len(editions) > 1 else editions[0]
+    edition = dice.pick(files.EDITIONS)
     blocks = some_blocks(dice, edition)
     accidents = dice.pick((0, 0, 0, 0, 0, 1, 1, 1, 2))
     kinds = [dice.below(2) for _ in range(accidents)]

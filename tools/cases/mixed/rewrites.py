@@ -27,7 +27,7 @@ def held_file(dice):
 
 
 def some_file(dice):
-    return held_file(dice) if dice.below(2) else reads.some_file(dice, (1, 2))[0]
+    return held_file(dice) if dice.below(2) else reads.some_file(dice)[0]
 
 
 def case(seed, i):

@@ -9,7 +9,7 @@ from cases.dice import Dice
 from cases.sweeps.searches import kinds_of, spread
 from models import files, search
 from models.build import column_file, ranged
-from models.files import BOTH, TOP
+from models.files import TOP
 from . import reads
 
 
@@ -39,12 +39,12 @@ def near_file(dice):
 
 
 def any_file(dice):
-    return reads.some_file(dice, (1, 2))[0]
+    return reads.some_file(dice)[0]
 
 
 def some_number(dice, data):
     """A number for a bound: an end of a range, a value of a block, one next to these, or any."""
-    if files.contents_answer(data, BOTH) or not files.count_of(data) or dice.below(6) == 0:
+    if files.contents_answer(data) or not files.count_of(data) or dice.below(6) == 0:
         return dice.pick((0, 1, 2**63, TOP, dice.number(), dice.below(300)))
     block = dice.below(files.count_of(data))
     entry = files.entry_at(data, block)

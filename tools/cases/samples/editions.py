@@ -2,19 +2,16 @@
 from cases.ask import ask_block, ask_check, ask_row
 from cases.sweeps import reads
 from cases.sweeps.editions import narrow_runs, some_ranged
-from models import files
 from models.build import any_block, any_runs, column_file, frame, ranged
 from models.files import DIFFERENCES, FRAME, PACKED, TOP
-from models.switches import EDITIONS
 
 
 def small_editions(dice):
     """Edition 2 with its ranges, in files of short blocks, and with faults in row lookups."""
-    if 2 in EDITIONS:
-        yield from small_rows(dice)
-        yield from small_ranges(dice)
-        yield from small_runs(dice)
-        yield from small_faults(dice)
+    yield from small_rows(dice)
+    yield from small_ranges(dice)
+    yield from small_runs(dice)
+    yield from small_faults(dice)
 
 
 def small_rows(dice):
@@ -32,8 +29,6 @@ def small_ranges(dice):
     """Ranges that are off by one at either end, as wide as can be, and the wrong way round; one of them in a block
     out."""
     for name, block in some_ranged(dice):
-        if block.entry.kind == files.RUNS:
-            continue
         smallest, largest = ranged(block).entry[-2:]
         near = [(smallest - 1, largest), (smallest + 1, largest), (smallest, largest - 1), (smallest, largest + 1)]
         for pair in (*near, (0, TOP), (largest, smallest)):

@@ -6,7 +6,6 @@ from cases.sweeps.reads import mixed_blocks, other_entries, resized, row_in_two,
 from cases.sweeps.reads import two_bad_entries, worked_files
 from models.build import Block, any_block, any_runs, column_file, frame, packed, with_index
 from models.files import DIFFERENCES, FRAME, PACKED
-from models.switches import EDITIONS
 
 
 def small_worked(dice):
@@ -136,8 +135,8 @@ SMALL_SECTIONS = (
 )
 
 
-# From Item 9 on there is more to keep in the same room. These outputs of blocks are then left to the sweep, and to the
-# row lookups of this sample and of small_editions.
+# These outputs of blocks are left to the sweep, and to the row lookups of this sample and of small_editions: with
+# edition 2 there is more to keep in the same room.
 LEFT_OUT = (
     "Item 1's file of sevens, block 1 into 1024",
     "kind 1 width 64, block 0 into 1024",
@@ -154,4 +153,4 @@ LEFT_OUT = (
 
 def small_reads(dice):
     for section in SMALL_SECTIONS:
-        yield from (question for question in section(dice) if 2 not in EDITIONS or question.name not in LEFT_OUT)
+        yield from (question for question in section(dice) if question.name not in LEFT_OUT)

@@ -3,7 +3,6 @@ numbers one stands in few places."""
 from cases import encodings
 from cases.ask import ask_found, ask_search
 from cases.shapes import other_places
-from cases.sweeps.reads import has_runs
 from cases.sweeps.searches import EDITIONS, NO_ROOM, SEARCH_WAYS, faulty_search, lying, search_steps
 from models.build import any_runs, column_file, frame, with_index
 from models.files import TOP
@@ -51,16 +50,9 @@ def small_lies(dice):
 
 
 def small_indices(dice):
-    """A bad index in edition 1, which opens everything; and where edition 2 has run blocks, one beside a lie, and a
-    list with values that stand nowhere."""
+    """A bad index in edition 1, which opens everything."""
     bad = with_index(any_runs(dice, 1), 5, 1)
     yield ask_search(dice, "edition 1, a bad index in block 1", column_file([frame(0, b"", 9), bad], 1), 4, 3, 0)
-    if has_runs(2):
-        data = column_file([lying(frame(0, b"", 9), 20, 30), lying(bad, 25, 50)], 2)
-        for low, high in ((25, 30), (20, 24), (51, 60)):
-            yield ask_search(dice, "a lie in block 0, a bad index in block 1", data, low, high, 1)
-        unused = encodings.as_runs(mostly(dice, 30, 40, 2), before=[7], after=[60])
-        yield ask_found(dice, "unused values", column_file([unused], 2), 40, 50)
 
 
 def small_faults(dice):

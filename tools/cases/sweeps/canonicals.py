@@ -11,7 +11,7 @@ from models import files, writer
 from models.build import Block, any_block, any_runs, column_file, frame, packed
 from models.files import DIFFERENCES, FRAME, PACKED
 from . import reads, writes
-from .reads import STEPS, has_runs
+from .reads import STEPS
 
 
 # Files that the writer gives.
@@ -51,7 +51,7 @@ def canonical_ways(dice):
     around the block."""
     around = frame(0, b"", 9), packed(0, b"")
     for i, (name, values) in enumerate(shapes_to_hold(dice)):
-        for way, block in encodings.blocks_of_ways(values, has_runs(2)).items():
+        for way, block in encodings.blocks_of_ways(values, False).items():
             yield ask_canonical(f"{name} as {way}", column_file([block], 2))
             if i % 5 == 0:
                 data = column_file([around[0], around[1], block, around[0]], 2)
@@ -159,7 +159,7 @@ def canonical_edition_1(dice):
 
 
 def canonical_runs(dice):
-    """Run blocks of edition 2, which the writer never gives. From Item 11 on they are no longer read."""
+    """Run blocks of edition 2, which the writer never gives, and which are not read, by Item 11."""
     for n in (1, 2, 1024):
         runs = any_runs(dice, n)
         yield ask_canonical(f"{n} runs", column_file([runs], 2))

@@ -2,17 +2,15 @@
 order of 13, 15 and 12.
 
 Each section is a function that gives questions, as in reads.py, and some are those of reads.py once more,
-with files of edition 2. Where the reader does not read edition 2 yet, there are none of them.
+with files of edition 2.
 """
 import functools
 
 from cases.ask import ask_all, ask_block, ask_check, ask_row
 from models import build, files
-from models.build import any_block, any_runs, column_file, frame, packed, ranged, runs, with_index
+from models.build import any_block, any_runs, column_file, frame, packed, ranged, runs
 from models.files import DIFFERENCES, FRAME, PACKED, TOP
-from models.switches import EDITIONS
 from . import reads
-from .reads import has_runs
 
 
 def edition_2_worked(dice):
@@ -42,19 +40,13 @@ def narrow_runs(dice):
 
 
 def edition_2_runs(dice):
-    """Run blocks in edition 2, with the range of the values, and with that of the list. From Item 11 on all are
-    refused, so then a few are enough."""
+    """Run blocks in edition 2, with the range of the values, and with that of the list. All are refused, by Item 11, so
+    a few are enough."""
     for name, block in narrow_runs(dice).items():
         yield from ask_all(dice, f"edition 2, runs with {name}", column_file([frame(0, b"", 7), block], 2), 1, 1500)
         listed = files.words_of(block.body[2048:])
         other = block.but(smallest=min(listed), largest=max(listed))
         yield from ask_all(dice, f"edition 2, runs with {name}, the range of the list", column_file([other], 2))
-    if has_runs(2):
-        for n in (1, 2, 256, 1024):
-            data = column_file([any_runs(dice, n)], 2)
-            yield from ask_all(dice, f"edition 2, {n} runs", data, row=dice.below(1024))
-            data = column_file([frame(0, b"", 7), with_index(any_runs(dice, n), 1023, n)], 2)
-            yield from ask_all(dice, f"edition 2, {n} runs, index {n}", data, 1, 1500)
 
 
 # Ranges that are not the body's.
@@ -69,8 +61,6 @@ def some_ranged(dice):
     yield "kind 1 of 2^64 - 1", frame(0, b"", TOP)
     yield "kind 1 across 2^64", frame(4, build.packed_bytes(4, [i % 16 for i in range(1024)]), TOP - 8)
     yield "kind 2 with one value apart", build.differences(0, build.words([9] * 15 + [8]), b"")
-    if has_runs(2):
-        yield "kind 3", narrow_runs(dice)["both ends unused"]
 
 
 def other_ranges(smallest, largest):
@@ -106,12 +96,6 @@ def edition_2_bad_blocks(dice):
         "the range of block 0": [lies[1], good, good, good],
         "every range": [lies[0], lies[1], lies[0], lies[1]],
     }
-    if has_runs(2):
-        bad = with_index(any_runs(dice, 2), 1000, 2)
-        sets["the range of block 1 and an index of block 2"] = [good, lies[0], bad, good]
-        sets["an index of block 1 and the range of block 2"] = [good, bad, lies[0], good]
-        sets["a range and an index of block 1"] = [good, bad.but(smallest=5, largest=6), lies[0], good]
-        sets["ranges of blocks 0 and 1 and an index of block 3"] = [lies[0], lies[1], good, bad]
     for name, blocks in sets.items():
         data = column_file(blocks, 2)
         yield from ask_all(dice, f"edition 2, {name}", data)
@@ -152,5 +136,3 @@ SECTIONS = (
     once_more(reads.cuts),
     once_more(reads.trailing),
 )
-if 2 not in EDITIONS:
-    SECTIONS = ()

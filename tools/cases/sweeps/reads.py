@@ -12,7 +12,6 @@ from cases.stream import BLOCK_OUT, CHECK, ROW_LOOKUP
 from models import build, files, layout
 from models.build import Block, any_block, any_runs, column_file, frame, packed, runs, with_index
 from models.files import DIFFERENCES, FRAME, PACKED, RUNS
-from models.switches import EDITIONS, RUNS_IN_EDITION_2
 
 NO_BLOCKS = bytes.fromhex("01 00 00 00")
 SEVENS = bytes.fromhex("01 00 01 00  01 00 00 00 00 00 00 00  07 00 00 00 00 00 00 00")
@@ -21,7 +20,7 @@ NO_BLOCKS_2 = bytes.fromhex("02 00 00 00")
 SEVENS_2 = bytes.fromhex("02 00 01 00  01 00 00 00 00 00 00 00" + 3 * "  07 00 00 00 00 00 00 00")
 
 EDGE_WIDTHS = (0, 1, 63, 64)
-OTHER_EDITION = max(EDITIONS) + 1  # the lowest that is not read
+OTHER_EDITION = max(files.EDITIONS) + 1  # the lowest that is not read
 TOO_HIGH = (2**16, 2**26, 2**32, 2**32 + 1, 2**42, 2**54, 2**63, 2**64 - 1)
 
 
@@ -129,7 +128,7 @@ def odd_runs(dice):
 
 def has_runs(edition):
     """Is kind 3 read in that edition?"""
-    return edition == 1 or RUNS_IN_EDITION_2
+    return edition in files.EDITIONS_OF_RUNS
 
 
 def mixed_blocks(dice, edition=1):
@@ -389,8 +388,8 @@ WAYS = (
 
 
 def ways():
-    """Those of the editions that the reader reads."""
-    return [i for i, way in enumerate(WAYS) if way["edition"] in EDITIONS]
+    """All of them, by number."""
+    return range(len(WAYS))
 
 
 def fits(steps, way):
@@ -403,7 +402,7 @@ def fits(steps, way):
 def cannot_fail(way):
     """Steps that no file of the edition fails."""
     edition = WAYS[way]["edition"]
-    return {RANGE_WRONG} if edition == 1 else set() if has_runs(edition) else {RUNS_WRONG}
+    return {RANGE_WRONG} if edition == 1 else {RUNS_WRONG}
 
 
 def off_by_one(block):

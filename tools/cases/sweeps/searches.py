@@ -2,8 +2,7 @@
 about their body in blocks that are opened and in blocks that are not, run blocks in both editions, and room that is one
 short, exact and one long.
 
-Each section is a function that gives questions, as in reads.py. They have files of both editions, whatever the
-reader reads, since the search comes with edition 2.
+Each section is a function that gives questions, as in reads.py. They have files of both editions.
 """
 from cases import encodings
 from cases.ask import ask_found, ask_search
@@ -204,23 +203,6 @@ def search_runs(dice):
                 yield ask_found(dice, f"edition {edition}, {name} with a bad index", data, low, high)
 
 
-def search_runs_and_lies(dice):
-    """An index out of range and a range that lies, opened or not: 13 of any opened block, then 15, then 14."""
-    if not has_runs(2):
-        return
-    lie = lying(encodings.as_packed(spread(dice, 10, 40)), 300, 400)
-    bad, good = run_block(dice, 100, 200, True), encodings.as_frame(spread(dice, 100, 400))
-    for name, blocks in (
-        ("index of 1, range of 2", [good, bad, lie]),
-        ("range of 0, index of 2", [lie, good, bad]),
-        ("both in 1", [good, lying(bad, 300, 400), lie]),
-    ):
-        data = column_file(blocks, 2)
-        for low, high in ((100, 100), (300, 300), (200, 300), (201, 299), (0, TOP), (300, 200), (401, TOP), (10, 40)):
-            yield ask_search(dice, name, data, low, high, 0)
-            yield ask_search(dice, name, data, low, high, 9)
-
-
 # What is refused. The steps of the reader, without the output and the number, and then 14.
 
 NO_ROOM = "14 room for rows"
@@ -300,7 +282,6 @@ SECTIONS = (
     search_lies,
     search_several_lies,
     search_runs,
-    search_runs_and_lies,
     search_faults,
     search_damaged,
     search_heads,

@@ -1,6 +1,5 @@
 """The deliberate cases of Item 3: every kind and width that can be chosen, every order of the three lengths, an outlier
-at every class of place, and the edges of counts and outputs. With Item 9 what is written has another edition, and so
-other lengths.
+at every class of place, and the edges of counts and outputs.
 
 Each section is a function that gives questions, as in reads.py. Every file that the model writes here goes back into
 the three calls of the reader.
@@ -9,7 +8,6 @@ from cases import shapes
 from cases.ask import ask_all, ask_block, ask_check, ask_row, ask_to_fit, ask_write
 from cases.shapes import TOP, along_rows, by_place
 from models import files, writer
-from models.switches import EDITION_WRITTEN
 
 FEW_WIDTHS = (0, 1, 2, 3, 4, 8, 31, 32, 33, 61, 62, 63, 64)
 
@@ -146,7 +144,7 @@ def few_blocks(dice):
 
 def contents_of(count):
     """The bytes in front of the bodies, of so many blocks."""
-    return files.contents_length(EDITION_WRITTEN, count)
+    return files.contents_length(writer.EDITION, count)
 
 
 def rooms(values):

@@ -5,7 +5,7 @@ check that has one of the wrong writers of writers.py in it is wrong too.
 """
 from cases.stream import Outcome, answered
 from models import canonical, files, writer
-from models.files import BOTH, DIFFERENCES
+from models.files import DIFFERENCES
 from . import writers
 from .instead import instead
 
@@ -87,7 +87,7 @@ def with_place(place):
 def edition_1_compared(q):
     """A file of edition 1 is compared too, with what the writer would give in edition 1."""
     outcome = answered(q)
-    if outcome.number != 9 or files.check(q.a, BOTH).number:
+    if outcome.number != 9 or files.check(q.a).number:
         return outcome
     answer = canonical.blocks_wrong(q.a)
     return Outcome(17, answer.place, q.c) if answer else Outcome(0, 0, q.c)
@@ -100,13 +100,13 @@ def edition_1_first(q):
 
 def edition_1_before_bodies(q):
     """9 for edition 1, once the contents are good."""
-    good = not files.contents_answer(q.a, BOTH)
+    good = not files.contents_answer(q.a)
     return Outcome(9, 0, q.c) if good and files.edition_of(q.a) == 1 else answered(q)
 
 
 def edition_1_is_17(q):
     outcome = answered(q)
-    readable = outcome.number == 9 and not files.check(q.a, BOTH).number
+    readable = outcome.number == 9 and not files.check(q.a).number
     return Outcome(17, 0, q.c) if readable else outcome
 
 

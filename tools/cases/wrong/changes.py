@@ -116,7 +116,7 @@ def of_refused(line):
 def listed_before(left, right):
     """The rows of the blocks that can be read are listed, and then a file is refused by a range or an index."""
     refused = changes.refusal(left, right)
-    if not refused or None in (left, right) or any(files.contents_answer(data, files.BOTH) for data in (left, right)):
+    if not refused or None in (left, right) or any(files.contents_answer(data) for data in (left, right)):
         return changes.text(left, right)
     place = int(refused.split()[-1])
     numbers = []

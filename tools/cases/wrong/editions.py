@@ -1,11 +1,10 @@
 """Readers that are wrong on purpose about edition 2, each in one thing.
 
-From Item 9 on the sample has to tell each of them from the right one.
+The sample has to tell each of them from the right one.
 """
 from cases.stream import BLOCK_OUT, CHECK, ROW_LOOKUP, Outcome, answered
 from models import files
-from models.files import BOTH, TOP
-from models.switches import RUNS_IN_EDITION_2
+from models.files import TOP
 from .instead import instead
 from .searches import WRONG_BODIES, right_range
 from .writers import signed
@@ -31,19 +30,14 @@ def ends_with_sign(entry, body):
     return min(values, key=signed), max(values, key=signed)
 
 
-def turned_taken(entry, edition=1, rules=BOTH):
+def turned_taken(entry, edition=1):
     """A smallest above the largest is no fault of the entry."""
-    return right_fault(entry._replace(smallest=0, largest=TOP), edition, rules)
+    return right_fault(entry._replace(smallest=0, largest=TOP), edition)
 
 
-def equal_refused(entry, edition=1, rules=BOTH):
+def equal_refused(entry, edition=1):
     same = edition == 2 and entry.smallest == entry.largest
-    return right_fault(entry, edition, rules) or ("smallest and largest are the same" if same else None)
-
-
-def other_rule_of_runs(entry, edition=1, rules=BOTH):
-    """Run blocks are read in edition 2 where they should not be, or are not where they should be."""
-    return right_fault(entry, edition, rules._replace(runs_in_2=not RUNS_IN_EDITION_2))
+    return right_fault(entry, edition) or ("smallest and largest are the same" if same else None)
 
 
 def with_head(head_wrong):
@@ -52,12 +46,12 @@ def with_head(head_wrong):
 
 
 def editions_read(*editions):
-    return with_head(lambda data, rules: right_head(data, rules._replace(editions=editions)))
+    return {"EDITIONS": editions}
 
 
-def no_limit_of_2(data, rules):
+def no_limit_of_2(data):
     """The number of blocks is looked at in edition 1 alone."""
-    return right_head(data, rules) if files.edition_of(data) != 2 else None
+    return right_head(data) if files.edition_of(data) != 2 else None
 
 
 def ends_changed_places(data):
@@ -82,7 +76,7 @@ WRONG_PARTS = {
     "the largest stands first": {"entries_of": ends_changed_places},
     "a smallest above the largest is 15": {"entry_fault": turned_taken},
     "a smallest that is the largest is 10": {"entry_fault": equal_refused},
-    "the other rule for kind 3": {"entry_fault": other_rule_of_runs},
+    "the other rule for kind 3": {"EDITIONS_OF_RUNS": (1, 2)},
     "edition 1 alone is read": editions_read(1),
     "edition 2 alone is read": editions_read(2),
     "edition 3 is read too": editions_read(1, 2, 3),

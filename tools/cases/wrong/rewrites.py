@@ -4,8 +4,7 @@ The sample has to tell each of them from the right one, so that it finds out a p
 """
 from cases.stream import Outcome, answered
 from models import build, files, rewrite, writer
-from models.files import BOTH, RUNS, words_of
-from models.switches import RUNS_IN_EDITION_2
+from models.files import RUNS, words_of
 from .instead import instead
 
 # First those that make another file.
@@ -157,16 +156,9 @@ def without_ranges(q):
 
 
 def other_rule_of_runs(q):
-    """Kind 3 in edition 2 is read where it should not be, or is not where it should be."""
-    with instead(files, {"entry_fault": other_fault}):
+    """Kind 3 is read in edition 2 too."""
+    with instead(files, {"EDITIONS_OF_RUNS": (1, 2)}):
         return answered(q)
-
-
-right_fault = files.entry_fault
-
-
-def other_fault(entry, edition=1, rules=BOTH):
-    return right_fault(entry, edition, rules._replace(runs_in_2=not RUNS_IN_EDITION_2))
 
 
 def only_edition_1(q):

@@ -5,8 +5,7 @@ The sample has to tell each of them from the right one, so that it finds out a p
 from cases.stream import Outcome, answered
 from models import files, layout, search
 from models.build import words
-from models.files import BOTH, RUNS, words_of
-from models.switches import RUNS_IN_EDITION_2
+from models.files import words_of
 from .instead import instead
 from .writers import signed
 
@@ -113,21 +112,10 @@ def all_blocks(data):
     return range(files.count_of(data))
 
 
-def lowest(answers):
-    """The answer with the lowest place, and of equal ones the first."""
-    return min(filter(None, answers), key=lambda answer: answer.place, default=None)
-
-
 def among_opened(data, blocks):
     """The place counts the blocks that are opened."""
     answer = right_bodies(data, blocks)
     return answer and answer._replace(place=blocks.index(answer.place))
-
-
-def of_the_list(entry, body):
-    """The smallest and the largest of a run block's list."""
-    listed = words_of(body[2048:])
-    return (min(listed), max(listed)) if entry.kind == RUNS else right_range(entry, body)
 
 
 def highest_of(data, blocks):
@@ -139,9 +127,6 @@ def highest_of(data, blocks):
 
 
 WRONG_BODIES = {
-    "15 before 13": {"bodies_answer": lambda d, b: files.ranges_wrong(d, good(d, b)) or files.runs_wrong(d, b)},
-    "13 and 15 block by block": {"bodies_answer": lambda d, b: lowest(right_bodies(d, [i]) for i in b)},
-    "13 for every block": {"bodies_answer": lambda d, b: files.runs_wrong(d, all_blocks(d)) or right_bodies(d, b)},
     "15 for every block": {
         "bodies_answer": lambda d, b: files.runs_wrong(d, b) or files.ranges_wrong(d, good(d, all_blocks(d)))
     },
@@ -151,12 +136,7 @@ WRONG_BODIES = {
     "13 and 15 at place 0": {"bodies_answer": lambda d, b: at_place(right_bodies(d, b), 0)},
     "the place among the opened blocks": {"bodies_answer": among_opened},
     "the highest bad block": {"bodies_answer": highest_of},
-    "15 by the list of a run block": {"true_range": of_the_list},
 }
-# With no run blocks in edition 2 these are right.
-OF_RUNS = ("15 before 13", "13 and 15 block by block", "13 for every block", "15 by the list of a run block")
-if not RUNS_IN_EDITION_2:
-    WRONG_BODIES = {name: parts for name, parts in WRONG_BODIES.items() if name not in OF_RUNS}
 
 
 def good(data, blocks):
@@ -218,7 +198,7 @@ def room_first(q):
 
 def checked_first(q):
     """The whole file is checked, as by the reader."""
-    answer = files.check(q.a, BOTH)
+    answer = files.check(q.a)
     return Outcome(answer.number, answer.place, q.c) if answer.number else answered(q)
 
 

@@ -7,7 +7,6 @@ import contextlib
 from cases.stream import WRITE, Outcome, answered
 from models import build, files, layout, writer
 from models.files import DIFFERENCES, FRAME, PACKED
-from models.switches import EDITION_WRITTEN
 
 # First those with another function in the place of one of the model's.
 
@@ -69,7 +68,6 @@ WRONG_PARTS = {
     "the base behind the differences": {"laid_down": base_behind},
 }
 
-# In edition 2 alone there is a range to be wrong about.
 WRONG_RANGES = {
     "the largest first": {"range_of": lambda values: (max(values), min(values))},
     "the first and the last": {"range_of": lambda values: (values[0], values[-1])},
@@ -81,8 +79,7 @@ WRONG_RANGES = {
     "all that there can be": {"range_of": lambda values: (0, files.TOP)},
     "the smallest and one past the largest": {"range_of": lambda values: (min(values), (max(values) + 1) % 2**64)},
 }
-if EDITION_WRITTEN == 2:
-    WRONG_PARTS.update(WRONG_RANGES)
+WRONG_PARTS.update(WRONG_RANGES)
 
 
 @contextlib.contextmanager
@@ -114,7 +111,7 @@ def with_room(q, room):
 
 
 def bound_of(q):
-    return 4 + {1: 8208, 2: 8224}[EDITION_WRITTEN] * (count_of(q) // 1024)
+    return 4 + 8224 * (count_of(q) // 1024)
 
 
 def bound_decides(q):
@@ -154,7 +151,7 @@ def rest_filled_up(q):
 
 
 def room_before_count(q):
-    contents = files.contents_length(EDITION_WRITTEN, count_of(q) // 1024)
+    contents = files.contents_length(writer.EDITION, count_of(q) // 1024)
     return Outcome(14, 0, q.c) if len(q.c) < contents else answered(q)
 
 
