@@ -4,8 +4,7 @@ any reference or base that fits. The writer would choose one of them, and the ot
 from functools import partial
 
 from models import build, layout, writer
-from models.files import DIFFERENCES, FRAME, PACKED, RUNS
-from models.layout import WRAP
+from models.files import DIFFERENCES, FRAME, LANES, PACKED, RUNS, WRAP, T
 
 
 def as_packed(values, more=0):
@@ -25,7 +24,7 @@ def as_frame(values, reference=None, more=0):
 def as_differences(values, base=None, more=0):
     """Kind 2, with each lane's number in row 0 as its base or with others."""
     base = writer.base_of(values) if base is None else base
-    steps = layout.delta(values, base)
+    steps = layout.delta(T, values, base)
     width = writer.least_width(steps) + more
     return build.differences(width, build.words(base), build.packed_bytes(width, steps))
 
@@ -65,15 +64,15 @@ def lower_base(values, lane):
 def packed_ways(values):
     width = writer.least_width(values)
     yield "kind 0", partial(as_packed, values)
-    if width < layout.T:
+    if width < T:
         yield "kind 0 one bit wider", partial(as_packed, values, more=1)
-        yield "kind 0 at width 64", partial(as_packed, values, more=layout.T - width)
+        yield "kind 0 at width 64", partial(as_packed, values, more=T - width)
 
 
 def frame_ways(values):
     smallest, largest = min(values), max(values)
     yield "kind 1", partial(as_frame, values)
-    if writer.least_width([largest - smallest]) < layout.T:
+    if writer.least_width([largest - smallest]) < T:
         yield "kind 1 one bit wider", partial(as_frame, values, more=1)
     references = {"from 0": 0, "from one less": (smallest - 1) % WRAP, "from the largest": largest}
     references |= {"from afar at the same width": other_reference(values)}
@@ -84,14 +83,14 @@ def frame_ways(values):
 
 def difference_ways(values):
     """A base that is lower by one needs no more width where the differences have any."""
-    width = writer.least_width(layout.delta(values, writer.base_of(values)))
+    width = writer.least_width(layout.delta(T, values, writer.base_of(values)))
     yield "kind 2", partial(as_differences, values)
-    if width < layout.T:
+    if width < T:
         yield "kind 2 one bit wider", partial(as_differences, values, more=1)
-    for lane in (0, layout.LANES - 1) if width else ():
+    for lane in (0, LANES - 1) if width else ():
         yield f"kind 2 with another base in lane {lane}", partial(as_differences, values, lower_base(values, lane))
     if any(writer.base_of(values)):
-        yield "kind 2 from zeros", partial(as_differences, values, [0] * layout.LANES)
+        yield "kind 2 from zeros", partial(as_differences, values, [0] * LANES)
 
 
 def run_ways(values):

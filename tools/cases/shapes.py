@@ -14,7 +14,8 @@ Kind 0 is never the only shortest, and where kinds 0 and 2 are equally short, ki
 import struct
 
 from models import layout
-from models.layout import LANES, ORDER, T, WRAP
+from models.files import LANES, WRAP, T
+from models.layout import ORDER
 
 TOP = WRAP - 1
 MOST_WIDTH = (64, 63, 62)  # by kind, of those that can be chosen
@@ -23,7 +24,7 @@ MOST_WIDTH = (64, 63, 62)  # by kind, of those that can be chosen
 def along_rows(number):
     """The block whose row r of lane l holds number(r, l), modulo 2^64."""
     block = [0] * 1024
-    for lane, places in enumerate(layout.PLACES):
+    for lane, places in enumerate(layout.PLACES[T]):
         for row, place in enumerate(places):
             block[place] = number(row, lane) % WRAP
     return block
@@ -66,7 +67,7 @@ def steps_up_to(dice, largest, base):
     for lane in range(LANES):
         steps[layout.place(0, lane)] = 0
     steps[layout.place(1 + dice.below(T - 1), dice.below(LANES))] = largest
-    return layout.undelta(steps, base)
+    return layout.undelta(T, steps, base)
 
 
 def far_base(dice):

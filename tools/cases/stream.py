@@ -12,6 +12,7 @@ import struct
 from typing import NamedTuple
 
 from models import canonical, drawers, files, rewrite, search, trickle, writer
+from models.layout import SIZES
 
 HEAD = struct.Struct("<BBHB3xQQQQ4I")
 CHECK, BLOCK_OUT, ROW_LOOKUP, WRITE, SEARCH, REWRITE, CANONICAL = 16, 17, 18, 19, 20, 21, 22
@@ -142,7 +143,7 @@ CALLS = {
 
 def sizes_of(op):
     """The sizes of an element in bits that a call has."""
-    return drawers.SIZES if op in DRAWERS else (64,)
+    return SIZES if op in DRAWERS else (64,)
 
 
 def elements(op, t):

@@ -7,7 +7,7 @@ import struct
 from typing import NamedTuple
 
 from . import files, layout
-from .files import DIFFERENCES, FRAME, PACKED, RUNS, Entry
+from .files import DIFFERENCES, FRAME, PACKED, RUNS, Entry, T
 
 
 class Block(NamedTuple):
@@ -69,7 +69,7 @@ def runs(indices, values):
 
 
 def packed_bytes(width, values):
-    return words(layout.pack(width, values))
+    return words(layout.pack(T, width, values))
 
 
 # Blocks with anything in them.

@@ -9,8 +9,8 @@ Block b of what is given is the single call's result on block b of what is taken
 refusals stand in Item 7's order: 1, the width is above T; 2, the values are not 1,024 · M, or M is above 256; 3, the
 packed length is not M · LANES · W. The place is always 0. So M of 0 asks that both buffers are empty, and is then done.
 
-An element has T bits, and T is 8, 16, 32 or 64 here; layout.py has the same layout at 64 alone. As there a lane is one
-whole number, and nothing shifts or masks. Whole numbers have no end, so no product here can come round to a small one.
+An element has T bits, and T is 8, 16, 32 or 64. Whole numbers have no end, so no product here can come round to a small
+one.
 """
 import functools
 import struct
@@ -18,21 +18,14 @@ import struct
 from . import layout
 from .files import Answer
 
-SIZES = (8, 16, 32, 64)
 LETTERS = {8: "B", 16: "H", 32: "I", 64: "Q"}  # of an element, for struct
 MOST_BLOCKS = 256
 DONE = Answer(0, 0, "every block is done")
 
-PLACES = {t: [[layout.place(row, lane) for row in range(t)] for lane in range(1024 // t)] for t in SIZES}
-
-
-def lanes_of(t):
-    return 1024 // t
-
 
 def lengths(t, width, blocks):
     """How many values and how many packed words a drawer of so many blocks has."""
-    return 1024 * blocks, blocks * lanes_of(t) * width
+    return 1024 * blocks, blocks * layout.lanes_of(t) * width
 
 
 def numbers_of(t, data):
@@ -50,45 +43,18 @@ def parts_of(data, count):
     return [data[i * size : (i + 1) * size] for i in range(count)]
 
 
-# One block.
-
-
-def pack(t, width, values):
-    """The packed words of 1,024 values, each taken modulo 2^width."""
-    lanes = lanes_of(t)
-    words = [0] * (lanes * width)
-    base, powers = 2**width, [2 ** (width * row) for row in range(t)]
-    for lane in range(lanes):
-        number = sum(values[p] % base * power for p, power in zip(PLACES[t][lane], powers))
-        for k in range(width):
-            number, words[lanes * k + lane] = divmod(number, 2**t)
-    return words
-
-
-def unpack(t, width, words):
-    """The 1,024 digits that the lanes' numbers hold; zeros at width 0, since then each number is 0."""
-    lanes = lanes_of(t)
-    values = [0] * 1024
-    base, powers = 2**width, [2 ** (t * k) for k in range(width)]
-    for lane in range(lanes):
-        number = sum(words[lanes * k + lane] * power for k, power in enumerate(powers))
-        for p in PLACES[t][lane]:
-            number, values[p] = divmod(number, base)
-    return values
-
-
 # Blocks come and go as their bytes, and the last ones are kept, since a case is answered more than once.
 
 
 @functools.lru_cache(maxsize=500)
 def unpacked(t, width, packed):
-    return bytes_of(t, unpack(t, width, numbers_of(t, packed)))
+    return bytes_of(t, layout.unpack(t, width, numbers_of(t, packed)))
 
 
 @functools.lru_cache(maxsize=500)
 def for_packed(t, width, reference, values):
     differences = [(value - reference) % 2**t for value in numbers_of(t, values)]
-    return bytes_of(t, pack(t, width, differences))
+    return bytes_of(t, layout.pack(t, width, differences))
 
 
 # The two calls. What they give beside the answer is None where the call is refused.

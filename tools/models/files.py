@@ -26,8 +26,10 @@ import struct
 from typing import NamedTuple
 
 from . import layout
-from .layout import WRAP
 
+T = 64  # the bits of a value
+LANES = layout.lanes_of(T)
+WRAP = 2**T  # Sums and differences wrap modulo this.
 EDITIONS = (1, 2)  # that are read
 PACKED, FRAME, DIFFERENCES, RUNS = range(4)
 EDITIONS_OF_RUNS = (1,)  # in which kind 3 is read, by Item 11
@@ -36,7 +38,7 @@ MOST_BLOCKS = 256
 HEAD = struct.Struct("<HH")
 ENTRIES = {1: struct.Struct("<BBHIQ"), 2: struct.Struct("<BBHIQQQ")}  # by edition
 INDICES = struct.Struct("<1024H")
-BASE_BYTES = 8 * layout.LANES
+BASE_BYTES = 8 * LANES
 TOP = WRAP - 1
 
 
@@ -161,7 +163,7 @@ def entry_fault(entry, edition=1):
         return f"{name} is read in edition 1 alone"
     if entry.kind == RUNS and entry.width != 0:
         return f"the width is {entry.width}, and {name} asks for 0"
-    if entry.width > layout.T:
+    if entry.width > T:
         return f"the width is {entry.width}, and {name} asks for 0 to 64"
     if entry.zero != 0:
         return f"the field that has to be zero is {entry.zero}"
@@ -208,9 +210,9 @@ def values_in(kind, width, reference, body):
     if kind == RUNS:
         return layout.decode(words_of(body[INDICES.size :]), INDICES.unpack_from(body))
     if kind == DIFFERENCES:
-        differences = layout.unpack(width, words_of(body[BASE_BYTES:]))
-        return layout.undelta(differences, words_of(body[:BASE_BYTES]))
-    digits = layout.unpack(width, words_of(body))
+        differences = layout.unpack(T, width, words_of(body[BASE_BYTES:]))
+        return layout.undelta(T, differences, words_of(body[:BASE_BYTES]))
+    digits = layout.unpack(T, width, words_of(body))
     return [(reference + digit) % WRAP for digit in digits] if kind == FRAME else digits
 
 
@@ -303,7 +305,7 @@ def words_read(entry, place):
     """How many packed words a lookup at a place of a block reads; None where the block's kind gives no count."""
     if entry.kind not in (PACKED, FRAME):
         return None
-    return layout.words_read(entry.width, layout.ROW_AT[place])
+    return layout.words_read(T, entry.width, layout.ROW_AT[T][place])
 
 
 # The three calls. What two of them give beside the answer is None where the call is refused.

@@ -1,79 +1,83 @@
-"""Document 01's layout for elements of 64 bits, in plain whole-number arithmetic.
+"""Document 01's layout for elements of T bits, where T is 8, 16, 32 or 64, in plain whole-number arithmetic.
 
-A lane is one whole number, the sum of its word k times 2^(64·k). Its digits to the base 2^W are the lane's values by
-rows. Nothing here shifts or masks, and nothing comes from the port.
+A block has 1,024 values, in 1024 / T lanes of T rows. A lane is one whole number, the sum of its word k times 2^(T·k).
+Its digits to the base 2^W are the lane's values by rows. Nothing here shifts or masks, and nothing comes from the port.
 
-The model of the reader needs unpack, undelta and decode, and the count of words. That of the writer needs pack and
-delta, and so do the cases.
+The models of column files and of bodies that trickle in have it at T 64; that of drawers, and the cases of tools/edges,
+have it at every size. The tests hold it to one bit at a time.
 """
 
-T = 64
-LANES = 1024 // T
+SIZES = (8, 16, 32, 64)
 ORDER = (0, 4, 2, 6, 1, 5, 3, 7)
-WRAP = 2**T  # Sums and differences wrap modulo this.
+
+
+def lanes_of(t):
+    return 1024 // t
 
 
 def place(row, lane):
-    """Where a lane's row stands in a block."""
+    """Where a lane's row stands in a block, whatever T is."""
     return ORDER[row // 8] * 16 + row % 8 * 128 + lane
 
 
-PLACES = [[place(row, lane) for row in range(T)] for lane in range(LANES)]  # of each lane, by rows
-ROW_AT = {p: row for rows in PLACES for row, p in enumerate(rows)}  # of each place
+PLACES = {t: [[place(row, lane) for row in range(t)] for lane in range(lanes_of(t))] for t in SIZES}  # of lanes, by rows
+ROW_AT = {t: {p: row for rows in PLACES[t] for row, p in enumerate(rows)} for t in SIZES}  # of each place
 
 
-def words_read(width, row):
-    """Item 5's count: how many packed words the bits of a value in that row stand in."""
+def words_read(t, width, row):
+    """Document 02's count, Item 5: how many packed words the bits of a value in that row stand in."""
     if width == 0:
         return 0
-    return 1 if row * width % T + width <= T else 2
+    return 1 if row * width % t + width <= t else 2
 
 
-def rows_in_two(width):
-    """The rows whose bits stand in two words; at a width that divides 64 there are none."""
-    return [row for row in range(T) if words_read(width, row) == 2]
+def rows_in_two(t, width):
+    """The rows whose bits stand in two words; at a width that divides T there are none."""
+    return [row for row in range(t) if words_read(t, width, row) == 2]
 
 
-def pack(width, values):
-    """The LANES · width words of 1,024 values, each taken modulo 2^width."""
-    words = [0] * (LANES * width)
-    base, powers = 2**width, [2 ** (width * row) for row in range(T)]
-    for lane in range(LANES):
-        number = sum(values[p] % base * power for p, power in zip(PLACES[lane], powers))
+def pack(t, width, values):
+    """The packed words of 1,024 values, each taken modulo 2^width."""
+    lanes = lanes_of(t)
+    words = [0] * (lanes * width)
+    base, powers = 2**width, [2 ** (width * row) for row in range(t)]
+    for lane in range(lanes):
+        number = sum(values[p] % base * power for p, power in zip(PLACES[t][lane], powers))
         for k in range(width):
-            number, words[LANES * k + lane] = divmod(number, WRAP)
+            number, words[lanes * k + lane] = divmod(number, 2**t)
     return words
 
 
-def unpack(width, words):
+def unpack(t, width, words):
     """The 1,024 digits that the lanes' numbers hold; zeros at width 0, since then each number is 0."""
+    lanes = lanes_of(t)
     values = [0] * 1024
-    base, powers = 2**width, [2 ** (T * k) for k in range(width)]
-    for lane in range(LANES):
-        number = sum(words[LANES * k + lane] * power for k, power in enumerate(powers))
-        for p in PLACES[lane]:
+    base, powers = 2**width, [2 ** (t * k) for k in range(width)]
+    for lane in range(lanes):
+        number = sum(words[lanes * k + lane] * power for k, power in enumerate(powers))
+        for p in PLACES[t][lane]:
             number, values[p] = divmod(number, base)
     return values
 
 
-def delta(values, base):
+def delta(t, values, base):
     """Along each lane by rows, each value minus the one before; row 0 minus the lane's base."""
     out = [0] * 1024
-    for lane in range(LANES):
+    for lane in range(lanes_of(t)):
         before = base[lane]
-        for p in PLACES[lane]:
-            out[p] = (values[p] - before) % WRAP
+        for p in PLACES[t][lane]:
+            out[p] = (values[p] - before) % 2**t
             before = values[p]
     return out
 
 
-def undelta(differences, base):
+def undelta(t, differences, base):
     """Along each lane by rows, each difference plus the result before; row 0 plus the lane's base."""
     out = [0] * 1024
-    for lane in range(LANES):
+    for lane in range(lanes_of(t)):
         result = base[lane]
-        for p in PLACES[lane]:
-            result = (result + differences[p]) % WRAP
+        for p in PLACES[t][lane]:
+            result = (result + differences[p]) % 2**t
             out[p] = result
     return out
 

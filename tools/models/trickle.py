@@ -16,9 +16,9 @@ import functools
 from typing import NamedTuple
 
 from . import layout
-from .files import Answer, words_of
+from .files import Answer, T, words_of
 
-ROOM = 128 * layout.T  # the bytes of the longest body, and those that a state made by hand has room for
+ROOM = 128 * T  # the bytes of the longest body, and those that a state made by hand has room for
 TAKEN = Answer(0, 0, "the width is taken")
 GIVEN = Answer(0, 0, "the values are given")
 
@@ -42,14 +42,14 @@ def lacking(state):
 
 def start(width):
     """The answer and the state."""
-    if width > layout.T:
-        return Answer(1, 0, f"the width is {width}, and an element has {layout.T} bits"), OF_WIDTH_0
+    if width > T:
+        return Answer(1, 0, f"the width is {width}, and an element has {T} bits"), OF_WIDTH_0
     return TAKEN, State(width, b"")
 
 
 def handed_in(width, held, room):
     """The state that counts, of one with so many bytes held at the front of its room."""
-    if width > layout.T or held > body_size(width):
+    if width > T or held > body_size(width):
         return OF_WIDTH_0
     return State(width, room[:held])
 
@@ -62,7 +62,7 @@ def feed(state, chunk):
 
 @functools.lru_cache(maxsize=500)
 def values_of(width, body):
-    return layout.unpack(width, words_of(body))
+    return layout.unpack(T, width, words_of(body))
 
 
 def ask(state, room):

@@ -20,8 +20,7 @@ import functools
 from typing import NamedTuple
 
 from . import build, files, layout
-from .files import DIFFERENCES, FRAME, PACKED, Answer
-from .layout import WRAP
+from .files import DIFFERENCES, FRAME, LANES, PACKED, WRAP, Answer, T
 
 EDITION = 2  # that is written
 WRITTEN = Answer(0, 0, "the file is written")
@@ -41,7 +40,7 @@ class Candidate(NamedTuple):
 def least_width(numbers):
     """The least width that holds every one of these numbers."""
     largest = max(numbers)
-    return next(width for width in range(layout.T + 1) if largest < 2**width)
+    return next(width for width in range(T + 1) if largest < 2**width)
 
 
 def reference_of(values):
@@ -50,11 +49,11 @@ def reference_of(values):
 
 def base_of(values):
     """Each lane's number in row 0."""
-    return tuple(values[layout.place(0, lane)] for lane in range(layout.LANES))
+    return tuple(values[layout.place(0, lane)] for lane in range(LANES))
 
 
 def differences_of(values, base):
-    return layout.delta(values, base)
+    return layout.delta(T, values, base)
 
 
 def candidate(kind, digits, reference=0, base=()):

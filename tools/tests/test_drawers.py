@@ -6,8 +6,9 @@ cases are looked at, and last come the calls of wrong/drawers.py.
 from cases import sweeps, wrong
 from cases.dice import Dice
 from cases.stream import DRAWERS, FOR_PACK_BLOCKS, UNPACK_BLOCKS, Question, answered
-from models import drawers, layout
-from models.drawers import SIZES, bytes_of, lengths, numbers_of, parts_of
+from models import layout
+from models.drawers import bytes_of, lengths, numbers_of, parts_of
+from models.layout import SIZES
 from .common import Checked, all_three, of_calls, questions_of, sample, swept, unless
 
 NUMBERS = {0, 1, 2, 3}  # that each call can give
@@ -171,14 +172,14 @@ def by_bits():
             yield from unless(outcome.c == expected, f"T {t} width {width}: for_pack differs from one bit at a time")
 
 
-def as_layout_has_it():
-    """At T 64 the blocks are those of layout.py, at every width."""
+def layout_by_bits():
+    """At T 64, which column files have, layout.py packs and unpacks as one bit at a time does, at every width."""
     dice = Dice("as layout has it")
     for width in range(65):
         values, packed = numbers_of(64, dice.bytes(8192)), numbers_of(64, dice.bytes(128 * width))
-        same = drawers.pack(64, width, values) == layout.pack(width, values)
-        same = same and drawers.unpack(64, width, packed) == layout.unpack(width, packed)
-        yield from unless(same, f"width {width}: the model of drawers and layout.py differ")
+        same = packed_by_bits(64, width, values) == layout.pack(64, width, values)
+        same = same and unpacked_by_bits(64, width, packed) == layout.unpack(64, width, packed)
+        yield from unless(same, f"width {width}: layout.py differs from one bit at a time")
 
 
 def round_trips():
@@ -307,8 +308,8 @@ class Drawers(Checked):
     def test_by_bits(self):
         self.nothing(by_bits())
 
-    def test_as_layout_has_it(self):
-        self.nothing(as_layout_has_it())
+    def test_layout_by_bits(self):
+        self.nothing(layout_by_bits())
 
     def test_round_trips(self):
         self.nothing(round_trips())

@@ -102,13 +102,13 @@ def round_trips():
     dice = Dice("round trips")
     for width in range(65):
         values = list(struct.unpack("<1024Q", dice.bytes(8192)))
-        back = layout.unpack(width, layout.pack(width, values))
+        back = layout.unpack(64, width, layout.pack(64, width, values))
         yield from unless(back == [value % 2**width for value in values], f"width {width}: values come back changed")
         words = list(struct.unpack(f"<{16 * width}Q", dice.bytes(128 * width)))
-        back = layout.pack(width, layout.unpack(width, words))
+        back = layout.pack(64, width, layout.unpack(64, width, words))
         yield from unless(back == words, f"width {width}: words come back changed")
     base = [dice.number() for _ in range(16)]
-    yield from unless(layout.undelta(layout.delta(values, base), base) == values, "differences come back changed")
+    yield from unless(layout.undelta(64, layout.delta(64, values, base), base) == values, "differences come back changed")
 
 
 def words_by_bits(width, row):
@@ -121,7 +121,7 @@ def words_by_packing(width, first):
     block = [0] * 1024
     for lane in range(16):
         block[layout.place(first + lane, lane)] = 2**64 - 1
-    packed = layout.pack(width, block)
+    packed = layout.pack(64, width, block)
     return [{k for k in range(width) if packed[16 * k + lane]} for lane in range(16)]
 
 
@@ -130,7 +130,7 @@ def counts_of_words():
     for width in range(65):
         packed = [found for first in (0, 16, 32, 48) for found in words_by_packing(width, first)]
         for row in range(64):
-            count, found = layout.words_read(width, row), words_by_bits(width, row)
+            count, found = layout.words_read(64, width, row), words_by_bits(width, row)
             yield from unless(count == len(found), f"width {width}, row {row}: the count is {count}, the words {found}")
             yield from unless(packed[row] == found, f"width {width}, row {row}: packing uses the words {packed[row]}")
 

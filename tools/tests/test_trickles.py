@@ -108,7 +108,7 @@ def cuts_make_no_difference():
             at += taken
         yield from unless(whole == thrown, f"width {width}: the cuts make a difference")
         answer, values = trickle.ask(whole, 1024)
-        right = layout.unpack(width, words_of(body))
+        right = layout.unpack(64, width, words_of(body))
         yield from unless((answer.number, values) == (0, right), f"width {width}: the values are not those of unpack")
 
 

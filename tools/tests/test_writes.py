@@ -149,7 +149,7 @@ def restores(kind, width, values):
     """Does the reader give these numbers back, when they are packed in this kind at this width?"""
     low, base = min(values), values[:16]  # row 0 of lane l stands at place l
     if kind == DIFFERENCES:
-        block = build.differences(width, build.words(base), build.packed_bytes(width, layout.delta(values, base)))
+        block = build.differences(width, build.words(base), build.packed_bytes(width, layout.delta(64, values, base)))
     elif kind == FRAME:
         block = build.frame(width, build.packed_bytes(width, [value - low for value in values]), low)
     else:

@@ -6,7 +6,7 @@ from cases.ask import ask_drawer
 from cases.dice import Dice
 from cases.stream import DRAWERS, FOR_PACK_BLOCKS, UNPACK_BLOCKS
 from cases.sweeps.drawers import TOO_MANY, references_of
-from models import drawers
+from models import drawers, layout
 
 
 def some_width(dice, t):
@@ -62,13 +62,13 @@ def some_faults(dice, t, width, blocks):
         elif sort == 2:
             values = other_length(dice, values, 1024)
         else:
-            packed = other_length(dice, packed, drawers.lanes_of(t) * min(width, t))
+            packed = other_length(dice, packed, layout.lanes_of(t) * min(width, t))
     return width, blocks, values, packed
 
 
 def case(seed, i):
     dice = Dice("drawers", seed, i)
-    op, t = dice.pick(DRAWERS), dice.pick(drawers.SIZES)
+    op, t = dice.pick(DRAWERS), dice.pick(layout.SIZES)
     width, blocks = some_width(dice, t), some_count(dice)
     values, packed = drawers.lengths(t, width, blocks)
     if dice.below(4) == 0:

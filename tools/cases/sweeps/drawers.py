@@ -6,7 +6,8 @@ Each section is a function that gives questions, as in reads.py.
 from cases.ask import ask_drawer, ask_fitting, ask_thrown
 from cases.dice import Dice
 from cases.stream import DRAWERS, FOR_PACK_BLOCKS, UNPACK_BLOCKS
-from models.drawers import SIZES, bytes_of, lengths, numbers_of
+from models.drawers import bytes_of, lengths, numbers_of
+from models.layout import SIZES
 
 # Counts of blocks that are too many. With 2^54 the number of values, taken modulo 2^64, is that of no block, and with
 # 2^54 + 1 that of one; at width T so is the number of packed words. The others come round in 8, 16 or 32 bits.

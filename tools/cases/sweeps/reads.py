@@ -83,7 +83,7 @@ def every_row(dice):
 
 def row_in_two(dice, width, which):
     """A file row of block 0 whose bits stand in two packed words: the first or the last such row of any lane."""
-    return layout.place(layout.rows_in_two(width)[which], dice.below(layout.LANES))
+    return layout.place(layout.rows_in_two(files.T, width)[which], dice.below(files.LANES))
 
 
 def counts_of_words(dice):
@@ -92,7 +92,7 @@ def counts_of_words(dice):
     for kind in (PACKED, FRAME, DIFFERENCES):
         for width in range(65):
             data = column_file([any_block(dice, kind, width)])
-            if layout.rows_in_two(width):
+            if layout.rows_in_two(files.T, width):
                 for which in (0, -1):
                     yield ask_row(f"kind {kind} width {width}, in two words", data, row_in_two(dice, width, which))
 

@@ -5,8 +5,8 @@ the same way. It does so at every size, but where that takes many values: then i
 the sweep at all of them.
 """
 from cases.stream import FOR_PACK_BLOCKS, UNPACK_BLOCKS, Outcome, answered
-from models import drawers
-from models.drawers import bytes_of, lanes_of, lengths, numbers_of, parts_of
+from models.drawers import bytes_of, lengths, numbers_of, parts_of
+from models.layout import PLACES, SIZES, lanes_of
 
 BOTH = (UNPACK_BLOCKS, FOR_PACK_BLOCKS)
 
@@ -79,7 +79,7 @@ def spilling(q):
     for values in parts_of(q.a, q.index):
         numbers, words = numbers_of(t, values), [0] * (lanes * q.width)
         for lane in range(lanes):
-            rows = enumerate(drawers.PLACES[t][lane])
+            rows = enumerate(PLACES[t][lane])
             number = sum((numbers[p] - q.reference) % 2**t * 2 ** (q.width * row) for row, p in rows)
             for k in range(q.width):
                 number, words[lanes * k + lane] = divmod(number, 2**t)
@@ -272,7 +272,7 @@ def for_both(calls):
     return {name: (BOTH, call) for name, call in calls.items()}
 
 
-def not_told(questions, wrong, sizes=drawers.SIZES):
+def not_told(questions, wrong, sizes=SIZES):
     """Those of these calls, with op and size, that give what the right one gives in every question of that size."""
     for name, (ops, call) in wrong.items():
         for op in ops:

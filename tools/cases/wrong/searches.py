@@ -27,7 +27,7 @@ def rows_where(lies_between):
 def by_lanes(values, block, low, high):
     """The rows in the order in which a lane has them."""
     rows = set(right_rows(values, block, low, high))
-    return [1024 * block + p for lane in layout.PLACES for p in lane if 1024 * block + p in rows]
+    return [1024 * block + p for lane in layout.PLACES[64] for p in lane if 1024 * block + p in rows]
 
 
 def only_edition_2(data, low, high):

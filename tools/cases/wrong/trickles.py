@@ -105,7 +105,7 @@ def with_values(values):
 
 
 def turned_words(width, body):
-    return layout.unpack(width, struct.unpack(f">{len(body) // 8}Q", body))
+    return layout.unpack(64, width, struct.unpack(f">{len(body) // 8}Q", body))
 
 
 def one_after_another(width, body):

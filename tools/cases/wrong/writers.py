@@ -62,7 +62,7 @@ WRONG_PARTS = {
     "a base of zeros": {"base_of": lambda values: (0,) * 16},
     "one base for all lanes": {"base_of": lambda values: (values[0],) * 16},
     "differences from place to place": {"differences_of": by_places},
-    "row 0 stored as it is": {"differences_of": lambda values, _: layout.delta(values, [0] * 16)},
+    "row 0 stored as it is": {"differences_of": lambda values, _: layout.delta(64, values, [0] * 16)},
     "a reference in every entry": {"laid_down": keeps_reference},
     "a length without the base": {"laid_down": counts_values_only},
     "the base behind the differences": {"laid_down": base_behind},

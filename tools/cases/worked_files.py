@@ -1,6 +1,6 @@
 """The worked examples of document 02 that are of column files and of bodies that trickle in, and a case for each of its
-numbers, for tools/edges. Each file is written out here byte by byte from document 02, and so is what its call must give:
-nothing comes from the port, and nothing from tools/colmodel."""
+numbers, for tools/edges. Each file is written out here byte by byte from document 02, and so is what its call must
+give: nothing comes from the port, and nothing from tools/models."""
 import struct
 
 MARK = 77
