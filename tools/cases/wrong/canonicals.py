@@ -172,7 +172,7 @@ NOT_COMPARED = {*writers.WRONG_RANGES, "a length without the base"}
 WRONG_WRITERS = {name: parts for name, parts in writers.WRONG_PARTS.items() if name not in NOT_COMPARED}
 
 
-def not_told(asked, blocks, calls, writers):
+def not_told(asked, blocks, calls, wrong_writers):
     """Those of these checks that give what the right one gives in every case."""
 
     def same(call):
@@ -185,7 +185,7 @@ def not_told(asked, blocks, calls, writers):
     for name, call in calls.items():
         if same(call):
             yield name
-    for name, functions in writers.items():
+    for name, functions in wrong_writers.items():
         with writers.instead(functions):
             if same(answered):
                 yield f"{name} in the writer"
