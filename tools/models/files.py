@@ -32,7 +32,7 @@ LANES = layout.lanes_of(T)
 WRAP = 2**T  # Sums and differences wrap modulo this.
 EDITIONS = (1, 2)  # that are read
 PACKED, FRAME, DIFFERENCES, RUNS = range(4)
-EDITIONS_OF_RUNS = (1,)  # in which kind 3 is read, by Item 11
+WITHOUT_RUNS = (2,)  # the editions in which kind 3 is not read, by Item 11
 KINDS = ("packed", "frame", "differences", "runs")
 MOST_BLOCKS = 256
 HEAD = struct.Struct("<HH")
@@ -159,7 +159,7 @@ def entry_fault(entry, edition=1):
     if entry.kind > RUNS:
         return f"the kind is {entry.kind}, and there are only 0 to 3"
     name = f"kind {entry.kind} ({KINDS[entry.kind]})"
-    if entry.kind == RUNS and edition not in EDITIONS_OF_RUNS:
+    if entry.kind == RUNS and edition in WITHOUT_RUNS:
         return f"{name} is read in edition 1 alone"
     if entry.kind == RUNS and entry.width != 0:
         return f"the width is {entry.width}, and {name} asks for 0"

@@ -128,7 +128,7 @@ def odd_runs(dice):
 
 def has_runs(edition):
     """Is kind 3 read in that edition?"""
-    return edition in files.EDITIONS_OF_RUNS
+    return edition not in files.WITHOUT_RUNS
 
 
 def mixed_blocks(dice, edition=1):

@@ -76,7 +76,7 @@ WRONG_PARTS = {
     "the largest stands first": {"entries_of": ends_changed_places},
     "a smallest above the largest is 15": {"entry_fault": turned_taken},
     "a smallest that is the largest is 10": {"entry_fault": equal_refused},
-    "the other rule for kind 3": {"EDITIONS_OF_RUNS": (1, 2)},
+    "the other rule for kind 3": {"WITHOUT_RUNS": ()},
     "edition 1 alone is read": editions_read(1),
     "edition 2 alone is read": editions_read(2),
     "edition 3 is read too": editions_read(1, 2, 3),

@@ -157,7 +157,7 @@ def without_ranges(q):
 
 def other_rule_of_runs(q):
     """Kind 3 is read in edition 2 too."""
-    with instead(files, {"EDITIONS_OF_RUNS": (1, 2)}):
+    with instead(files, {"WITHOUT_RUNS": ()}):
         return answered(q)
 
 
