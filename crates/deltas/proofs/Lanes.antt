@@ -5,7 +5,7 @@ use mathlib.Core.Path.{_≡_, refl, sym, ap, ap₂, _∙_, subst}
 use mathlib.Core.Bool.{Bool, true, false}
 use mathlib.Core.List.{List}
 use Prim.Native.Nat.{ℕ, zero, suc, _+_, _-_, _*_, _%_, _^_, _≤_, _<_}
-use native.Mathlib.Nat.{mod-lt, mod-eq-of-lt, mod-add-mod, add-mod, add-mod-right, le-refl, lt-of-lt-of-le}
+use native.Mathlib.Nat.{zero-add, mod-lt, mod-eq-of-lt, mod-add-mod, add-mod, add-mod-right, le-refl, lt-of-lt-of-le}
 use native.Mathlib.Numerals.{add-one}
 use native.Mathlib.Omega.{arith}
 use lib.Dec.{eqb}
@@ -37,6 +37,11 @@ module _ (t : ℕ) where
   pub minus-lt : (a b : ℕ) → minus t a b < 2 ^ t
   unfolding minus
   minus-lt a b = mod-lt (a + (2 ^ t - b)) (pow-pos t)
+
+  -- A number of t bits, added to zero, stays what it is.
+  pub plus-zero : (b : ℕ) → b < 2 ^ t → plus t 0 b ≡ b
+  unfolding plus
+  plus-zero b h = rw zero-add (mod-eq-of-lt h)
 
   -- what is a number of t bits and 2^t more is that number
   once-round : (a m : ℕ) → a < 2 ^ t → m ≡ a + 2 ^ t → m % 2 ^ t ≡ a
@@ -88,6 +93,12 @@ module _ (t : ℕ) (f : ℕ → ℕ) (b : ℕ) where
   unfolding summed
   summed-lt zero = plus-lt t (f 0) b
   summed-lt (suc r) = plus-lt t (f (suc r)) (summed t f b r)
+
+-- Where all numbers are zero the base stays.
+pub summed-zero : (t : ℕ) (f : ℕ → ℕ) → ((r : ℕ) → f r ≡ 0) → (b : ℕ) → b < 2 ^ t → (r : ℕ) → summed t f b r ≡ b
+unfolding summed
+summed-zero t f none b h zero = ap (λ n. plus t n b) (none 0) ∙ plus-zero t b h
+summed-zero t f none b h (suc r) = ap₂ (plus t) (none (suc r)) (summed-zero t f none b h r) ∙ plus-zero t b h
 
 -- Numbers that agree up to row r give one result there.
 pub summed-ext : (t : ℕ) (f g : ℕ → ℕ) (b r : ℕ) → ((k : ℕ) → k ≤ r → f k ≡ g k) → summed t f b r ≡ summed t g b r

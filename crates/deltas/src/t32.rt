@@ -1,6 +1,5 @@
 // Written by tools/sizes from the text of size 64: edit that one, and run tools/sizes.
 // Differences and frames of blocks of u32 values.
-use packing::t32::unpack;
 use places::Answer;
 use places::next_start;
 use places::row_start;
@@ -13,17 +12,15 @@ use rows::t32::store;
 use rows::t32::wrapping_add;
 use rows::t32::wrapping_sub;
 ghost use mathlib.Core.Path.{_≡_};
-ghost use Prim.Native.Nat.{_+_, _*_, _/_, _≤_, _<_};
+ghost use Prim.Native.Nat.{_+_, _*_, _≤_, _<_};
 ghost use lib.ListN.{length, getD};
+ghost use Rattle.places.specs.Places.{lane};
 ghost use Rattle.places.specs.Sizes.{t32, lanes};
 ghost use Rattle.places.specs.Tab.{tab, over};
 ghost use Rattle.places.specs.Takes.{answerFor};
 ghost use Rattle.packing.specs.Calls.{packTakes};
-ghost use Rattle.rows.specs.InnerBlocks.{rowsOver};
 ghost use Rattle.deltas.specs.Calls.{deltaTakes, deltaLeaves, undeltaLeaves, undeltaPackTakes, undeltaPackLeaves, forPackLeaves, unforPackLeaves};
 ghost use Rattle.deltas.specs.Deltas.{deltaOf, undeltaOf, undeltaPackOf, forPackOf, unforPackOf};
-ghost use Rattle.places.specs.Numbers.{minus, plus};
-ghost use Rattle.deltas.specs.InnerWalks.{sumRow, sumAt};
 
 const T: usize = 32;
 
@@ -84,11 +81,9 @@ pub fn undelta_pack(width: usize, packed: &[u32], base: &[u32], values: &mut [u3
         return Answer::Base;
     }
     match width {
+        0 => repeat(load(base), values),
         1..=31 => unpack_sums(width, packed, base, values),
-        _ => {
-            unpack(width, packed, values);
-            sum_up(base, values);
-        }
+        _ => copy_sums(packed, base, values),
     }
     Answer::Done
 }
@@ -130,11 +125,9 @@ pub fn unfor_pack(width: usize, packed: &[u32], reference: u32, values: &mut [u3
         return Answer::Packed;
     }
     match width {
+        0 => repeat(splat(reference), values),
         1..=31 => unpack_raised(width, packed, reference, values),
-        _ => {
-            unpack(width, packed, values);
-            raise(reference, values);
-        }
+        _ => copy_raised(packed, reference, values),
     }
     Answer::Done
 }
@@ -183,49 +176,14 @@ fn sums(input: &[u32], base: &[u32], output: &mut [u32])
     }
 }
 
-// The same where the numbers stand, eight rows at a time: of a block that was unpacked at width 0 or T.
-fn sum_up(base: &[u32], values: &mut [u32])
-    requires { ⌜ length (now base) ≡ lanes t32 ⌝ }
+// Width 0 has no words. Every number is zero, so each row of values is what is added to it: the reference, or the base.
+fn repeat(row: [u32; LANES], values: &mut [u32])
     requires { ⌜ length (now values) ≡ 1024 ⌝ }
-    ensures { λ _. ⌜ now (values .exit) ≡ undeltaOf t32 (now (values .entry)) (now (base .entry)) ⌝ }
+    ensures { λ _. ⌜ now (values .exit) ≡ tab 1024 (λ p. getD row (lane t32 p) 0) ⌝ }
 {
-    let mut prev = load(base);
-    let mut o = 0;
-    while o < T / 8 {
-        let last = sum_eight(values, o, prev);
-        prev = last;
-        o += 1;
-    }
-}
-
-fn sum_eight(values: &mut [u32], o: usize, before: [u32; LANES]) -> [u32; LANES]
-    requires { ⌜ length (now values) ≡ 1024 ⌝ }
-    requires { ⌜ o < t32 / 8 ⌝ }
-    ensures { λ r. ⌜ r ≡ sumRow t32 (now (values .entry)) before (o * 8) 8 ⌝ }
-    ensures { λ _. ⌜ now (values .exit) ≡ rowsOver t32 (o * 8) 8 (sumAt t32 (now (values .entry)) before (o * 8)) (now (values .entry)) ⌝ }
-{
-    let mut prev = before;
-    let mut i = 0;
-    while i < 8 {
-        let start = row_start(o, i);
-        let next = wrapping_add(row_at(values, start), prev);
-        put_at(values, start, next);
-        prev = next;
-        i += 1;
-    }
-    prev
-}
-
-// Adds the reference to every value, in the order of the places: of a block that was unpacked at width 0 or T.
-fn raise(reference: u32, values: &mut [u32])
-    requires { ⌜ length (now values) ≡ 1024 ⌝ }
-    ensures { λ _. ⌜ now (values .exit) ≡ tab 1024 (λ p. plus t32 (getD (now (values .entry)) p 0) reference) ⌝ }
-{
-    let row = splat(reference);
     let mut a = 0;
     while a < 1024 {
-        let next = wrapping_add(row_at(values, a), row);
-        put_at(values, a, next);
+        put_at(values, a, row);
         a += LANES;
     }
 }
@@ -350,6 +308,41 @@ fn frame_copy(values: &[u32], reference: u32, packed: &mut [u32])
     let mut r = 0;
     while r < T {
         put_at(packed, LANES * r, wrapping_sub(row_at(values, start), low));
+        r += 1;
+        start = next_start(start, r);
+    }
+}
+
+// And back: width T copies each word plus the reference.
+fn copy_raised(packed: &[u32], reference: u32, values: &mut [u32])
+    requires { ⌜ length (now packed) ≡ 1024 ⌝ }
+    requires { ⌜ length (now values) ≡ 1024 ⌝ }
+    ensures { λ _. ⌜ now (values .exit) ≡ unforPackOf t32 t32 (now (packed .entry)) reference ⌝ }
+{
+    let lift = splat(reference);
+    let mut start = 0;
+    let mut r = 0;
+    while r < T {
+        put_at(values, start, wrapping_add(row_at(packed, LANES * r), lift));
+        r += 1;
+        start = next_start(start, r);
+    }
+}
+
+// The same with each row of words added to the row of values before it.
+fn copy_sums(packed: &[u32], base: &[u32], values: &mut [u32])
+    requires { ⌜ length (now packed) ≡ 1024 ⌝ }
+    requires { ⌜ length (now base) ≡ lanes t32 ⌝ }
+    requires { ⌜ length (now values) ≡ 1024 ⌝ }
+    ensures { λ _. ⌜ now (values .exit) ≡ undeltaPackOf t32 t32 (now (packed .entry)) (now (base .entry)) ⌝ }
+{
+    let mut prev = load(base);
+    let mut start = 0;
+    let mut r = 0;
+    while r < T {
+        let next = wrapping_add(row_at(packed, LANES * r), prev);
+        put_at(values, start, next);
+        prev = next;
         r += 1;
         start = next_start(start, r);
     }

@@ -3,3 +3,4 @@ pub mod Calls
 pub mod Rounds
 pub mod Steps
 pub mod Turns
+pub mod Walks

@@ -12,7 +12,6 @@ use lib.Arith.{digits-div, digits-mod}
 use lib.Bits.{bitOr, or-shifted-r}
 use lib.Pow.{pow-pos, pow-mono, pow-add, mod-pow-add, mod-mod-pow, high, low, shr-shr, shr-lt}
 use Rattle.places.specs.Numbers.{number, digit}
-use Rattle.packing.specs.InnerWalks.{held}
 use Rattle.places.proofs.Digits.{number-lt, number-split, digit-number, digit-from}
 
 -- a power as two
@@ -171,6 +170,10 @@ module _ (t w r k s : ℕ) (e : r * w ≡ k * t + s) (hs : s < t) where
         ∙ ap (λ n. n % 2 ^ w) (sym (or-join (f (k + 1)) (f k / 2 ^ s) (t - s) t (omega arith) (shr-lt (t - s) s fits)))
 
 -- ---- writing
+
+-- The first r digits of w bits leave this over for the digit of t bits that they do not fill: a word that is being packed holds it.
+unfoldable pub held : (t w : ℕ) (f : ℕ → ℕ) (r : ℕ) → ℕ
+held t w f r = number w f r / 2 ^ (t * (r * w / t))
 
 -- Before the first value nothing is held.
 pub held-zero : (t w : ℕ) (g : ℕ → ℕ) → held t w g 0 ≡ 0

@@ -9,15 +9,13 @@ use rows::t64::shr;
 use rows::t64::splat;
 use rows::t64::store;
 ghost use mathlib.Core.Path.{_≡_};
-ghost use Prim.Native.Nat.{_+_, _*_, _/_, _≤_, _<_};
+ghost use Prim.Native.Nat.{_+_, _*_, _≤_, _<_};
 ghost use lib.ListN.{length, getD};
 ghost use Rattle.places.specs.Sizes.{t64, lanes};
 ghost use Rattle.places.specs.Tab.{tab, over};
-ghost use Rattle.rows.specs.InnerBlocks.{rowsOver};
 ghost use Rattle.places.specs.Takes.{answerFor};
 ghost use Rattle.packing.specs.Calls.{packTakes, packLeaves, unpackLeaves};
-ghost use Rattle.packing.specs.Packed.{valueAt, packOf, unpackOf};
-ghost use Rattle.packing.specs.InnerWalks.{Filled};
+ghost use Rattle.packing.specs.Packed.{packOf, unpackOf};
 
 const T: usize = 64;
 
@@ -128,57 +126,33 @@ fn put_at(block: &mut [u64], a: usize, row: [u64; LANES])
     store(&mut block[a..e], row);
 }
 
-// Width T copies: eight rows at a time.
+// Width T copies the words of row r to the places of row r, which begin at `start`.
 fn unpack_copy(packed: &[u64], values: &mut [u64])
     requires { ⌜ length (now packed) ≡ 1024 ⌝ }
     requires { ⌜ length (now values) ≡ 1024 ⌝ }
     ensures { λ _. ⌜ now (values .exit) ≡ unpackOf t64 t64 (now (packed .entry)) ⌝ }
 {
-    let mut o = 0;
-    while o < T / 8 {
-        unpack_copy_eight(packed, values, o);
-        o += 1;
+    let mut start = 0;
+    let mut r = 0;
+    while r < T {
+        put_at(values, start, row_at(packed, LANES * r));
+        r += 1;
+        start = next_start(start, r);
     }
 }
 
-fn unpack_copy_eight(packed: &[u64], values: &mut [u64], o: usize)
-    requires { ⌜ length (now packed) ≡ 1024 ⌝ }
-    requires { ⌜ length (now values) ≡ 1024 ⌝ }
-    requires { ⌜ o < t64 / 8 ⌝ }
-    ensures { λ _. ⌜ now (values .exit) ≡ rowsOver t64 (o * 8) 8 (valueAt t64 t64 (now (packed .entry))) (now (values .entry)) ⌝ }
-{
-    let mut i = 0;
-    while i < 8 {
-        let row = row_at(packed, LANES * (o * 8 + i));
-        put_at(values, row_start(o, i), row);
-        i += 1;
-    }
-}
-
-// Width T copies: eight rows at a time.
+// And back.
 fn pack_copy(values: &[u64], packed: &mut [u64])
     requires { ⌜ length (now packed) ≡ 1024 ⌝ }
     requires { ⌜ length (now values) ≡ 1024 ⌝ }
     ensures { λ _. ⌜ now (packed .exit) ≡ packOf t64 t64 (now (values .entry)) ⌝ }
 {
-    let mut o = 0;
-    while o < T / 8 {
-        pack_copy_eight(values, packed, o);
-        o += 1;
-    }
-}
-
-fn pack_copy_eight(values: &[u64], packed: &mut [u64], o: usize)
-    requires { ⌜ length (now values) ≡ 1024 ⌝ }
-    requires { ⌜ o < t64 / 8 ⌝ }
-    requires { ⌜ Filled t64 t64 (now values) (o * 8) (now packed) ⌝ }
-    ensures { λ _. ⌜ Filled t64 t64 (now (values .entry)) ((o + 1) * 8) (now (packed .exit)) ⌝ }
-{
-    let mut i = 0;
-    while i < 8 {
-        let row = row_at(values, row_start(o, i));
-        put_at(packed, LANES * (o * 8 + i), row);
-        i += 1;
+    let mut start = 0;
+    let mut r = 0;
+    while r < T {
+        put_at(packed, LANES * r, row_at(values, start));
+        r += 1;
+        start = next_start(start, r);
     }
 }
 

@@ -11,10 +11,9 @@ use lib.ListN.{length, getD}
 use borrow.Author.Needs.{needs}
 use Rattle.places.specs.Sizes.{t16, lanes}
 use Rattle.places.proofs.Places.{size16}
-use Rattle.rows.proofs.Blocks.{Rewritten, rewritten-none, rewritten-length, rewritten-put, rewritten-eight, rewritten-all, start-at, start-in}
+use Rattle.rows.proofs.Blocks.{row-from, Laid, laid-none, laid-put, laid-all, start-at, start-in}
 use Rattle.places.specs.Numbers.{minus}
 use Rattle.rows.specs.Rows.{subOf}
-use Rattle.packing.proofs.Turns.{row-from}
 use Rattle.deltas.specs.Deltas.{before, deltaOf}
 use Rattle.deltas.proofs.Walks.{load-base, rowBefore, before-later, differ-row}
 use Rattle.deltas.proofs.t16.differences.Statement.{statement}
@@ -23,7 +22,7 @@ use Rattle.deltas.proofs.t16.differences.Tie as tie
 abbrev Inv-loop2 : tie.InvT-loop2
 Inv-loop2 input base output₀ prev₀ o i₀ output prev i =
     (i ≤ 8) × (prev ≡ rowBefore t16 input base (o * 8 + i))
-    × Rewritten t16 (o * 8) i (λ p. minus t16 (getD input p 0) (before t16 input base p)) output₀ output
+    × Laid t16 (o * 8 + i) (λ p. minus t16 (getD input p 0) (before t16 input base p)) output
 
 abbrev μ-loop2 : tie.MeasureT-loop2
 μ-loop2 input base output₀ prev₀ o i₀ output prev i = 8 - i
@@ -31,7 +30,7 @@ abbrev μ-loop2 : tie.MeasureT-loop2
 abbrev Inv-loop : tie.InvT-loop
 Inv-loop input base output₀ prev₀ o₀ output prev o =
     (o ≤ t16 / 8) × (prev ≡ rowBefore t16 input base (o * 8))
-    × Rewritten t16 0 (o * 8) (λ p. minus t16 (getD input p 0) (before t16 input base p)) output₀ output
+    × Laid t16 (o * 8) (λ p. minus t16 (getD input p 0) (before t16 input base p)) output
 
 abbrev μ-loop : tie.MeasureT-loop
 μ-loop input base output₀ prev₀ o₀ output prev o = t16 / 8 - o
@@ -42,10 +41,10 @@ load-requires c κs = search needs
 loop-holds : tie.Need-loop-holds Inv-loop2 μ-loop2 Inv-loop μ-loop
 loop-holds c =
     let pre = c .before .before .before .before .pre in
-    (search needs, c .load .ensures ∙ load-base t16 _ (pre .1 .0), rewritten-none (pre .1 .1))
+    (search needs, c .load .ensures ∙ load-base t16 _ (pre .1 .0), laid-none (pre .1 .1))
 
 loop2-holds : tie.Need-loop2-holds Inv-loop2 μ-loop2 Inv-loop μ-loop
-loop2-holds c = (search needs, rw add-zero (c .before .loop .inv .1), rewritten-none (rewritten-length (c .before .loop .inv .2)))
+loop2-holds c = (search needs, rw add-zero (c .before .loop .inv .1), rw add-zero (c .before .loop .inv .2))
 
 row-start-requires : tie.Need-row-start-requires Inv-loop2 μ-loop2 Inv-loop μ-loop
 row-start-requires c κs = search needs
@@ -68,7 +67,7 @@ put-at-requires : tie.Need-put-at-requires Inv-loop2 μ-loop2 Inv-loop μ-loop
 put-at-requires c κs =
     let at-start = c .before .before .before in
     let in-loop = at-start .before in
-    rw (rewritten-length (in-loop .before .loop2 .inv .2)) (start-in size16 _ _ _ (in-loop .loop2-test .taken) (row-lt in-loop) (at-start .row-start .ensures))
+    rw (in-loop .before .loop2 .inv .2 .long) (start-in size16 _ _ _ (in-loop .loop2-test .taken) (row-lt in-loop) (at-start .row-start .ensures))
 
 row-at-requires-2 : tie.Need-row-at-requires-2 Inv-loop2 μ-loop2 Inv-loop μ-loop
 row-at-requires-2 c κs = row-room (c .before .before .before .before .before .before)
@@ -96,7 +95,7 @@ loop2-again c =
     let row = at-sub .wrapping-sub .ensures ∙ ap₂ (subOf t16) (at-sub .before .row-at .ensures ∙ found) (inv .1) ∙ differ-row size16 input base (o * 8 + i) hr (start .pre .1 .0) in (
       omega arith,
       c .row-at2 .ensures ∙ found ∙ sym (before-later t16 input base (o * 8 + i)) ∙ ap (rowBefore t16 input base) (add-assoc (o * 8) i 1),
-      rewritten-put size16 _ _ _ taken hr (at-start .row-start .ensures) (inv .2) row (c .before .before .before .put-at .ensures),
+      laid-put size16 _ _ _ taken hr (at-start .row-start .ensures) (inv .2) row (c .before .before .before .put-at .ensures),
     )
 
 add-o : tie.Need-add-o Inv-loop2 μ-loop2 Inv-loop μ-loop
@@ -109,16 +108,15 @@ loop-again : tie.Need-loop-again Inv-loop2 μ-loop2 Inv-loop μ-loop
 loop-again c =
     let o = c .before .before .before .loop .o in
     let inv = c .before .loop2 .inv in
-    let e : c .before .loop2 .i ≡ 8 = omega arith in
     let next : o * 8 + c .before .loop2 .i ≡ (o + 1) * 8 = omega arith in
-    (omega arith, rw next at (inv .1), rewritten-eight o (c .before .before .before .loop .inv .2) (rw e at (inv .2 .is)))
+    (omega arith, rw next at (inv .1), rw next at (inv .2))
 
 same-length : tie.Need-same-length Inv-loop2 μ-loop2 Inv-loop μ-loop
-same-length c = omega (arith, rewritten-length (c .before .loop .inv .2))
+same-length c = omega (arith, c .before .loop .inv .2 .long)
 
 returns : tie.Need-returns Inv-loop2 μ-loop2 Inv-loop μ-loop
 unfolding deltaOf
-returns c = rewritten-all size16 (c .before .loop .inv .2) (omega arith)
+returns c = laid-all size16 (c .before .loop .inv .2) (omega arith)
 
 pub differences-spec : {M : Type 1} → statement M
 differences-spec =

@@ -11,8 +11,8 @@ use borrow.Author.Needs.{needs}
 use Rattle.places.specs.Sizes.{t64, lanes}
 use Rattle.places.proofs.Places.{size64}
 use Rattle.rows.specs.Rows.{shrOf, orShlOf, maskOf, subOf}
-use Rattle.rows.proofs.Blocks.{start-room}
-use Rattle.packing.proofs.Turns.{at-lt, at-room, row-more, rowFrom, rowOf, Packing, starts-at, packing-on, packing-full, packing-none, packing-all}
+use Rattle.rows.proofs.Blocks.{rowFrom, rowOf, starts-at, starts-room}
+use Rattle.packing.proofs.Walks.{at-lt, at-room, row-more, Packing, packing-on, packing-full, packing-none, packing-all}
 use Rattle.deltas.specs.Deltas.{frameOf, forPackOf}
 use Rattle.deltas.proofs.Walks.{frame-row}
 use Rattle.deltas.proofs.t64.frame_split.Statement.{statement}
@@ -54,7 +54,7 @@ begun c = c .before .before .before .before .before .before
 row-room : (c : tie.At-loop2 Inv-loop2 μ-loop2 Inv-loop μ-loop) → c .loop2 .start + lanes t64 ≤ length (now (begun (c .before) .args .values))
 row-room c =
     let inv = c .loop2 .inv in
-    omega (arith, starts-at size64 (inv .1) (inv .2), start-room size64 (c .loop2 .r) (inv .1), begun (c .before) .pre .1 .0)
+    omega (arith, starts-room size64 (inv .1) (inv .2 .starts), begun (c .before) .pre .1 .0)
 
 bit-lt : (c : tie.At-loop2 Inv-loop2 μ-loop2 Inv-loop μ-loop) → c .loop2 .s < t64
 bit-lt c = at-lt size64 (c .loop2 .inv .1) (begun (c .before) .pre .0 .0) (c .loop2 .inv .2 .stands)
@@ -65,7 +65,7 @@ is-frame : (c : tie.At-loop2 Inv-loop2 μ-loop2 Inv-loop μ-loop) {x y : List �
     → y ≡ rowOf t64 (frameOf t64 (now (begun (c .before) .args .values)) (begun (c .before) .args .reference)) (c .loop2 .r)
 is-frame c ex ey =
     ey ∙ ap₂ (subOf t64) ex (c .before .before .before .before .splat .ensures)
-    ∙ frame-row size64 (c .loop2 .r) (c .loop2 .start) _ _ (c .loop2 .inv .1) (starts-at size64 (c .loop2 .inv .1) (c .loop2 .inv .2))
+    ∙ frame-row size64 (c .loop2 .r) (c .loop2 .start) _ _ (c .loop2 .inv .1) (starts-at size64 (c .loop2 .inv .1) (c .loop2 .inv .2 .starts))
 
 row-at-requires : tie.Need-row-at-requires Inv-loop2 μ-loop2 Inv-loop μ-loop
 row-at-requires c κs = row-room (c .before)

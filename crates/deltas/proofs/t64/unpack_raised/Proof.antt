@@ -13,9 +13,9 @@ use Rattle.places.specs.Sizes.{t64, lanes}
 use Rattle.places.specs.Numbers.{plus, Elements}
 use Rattle.places.proofs.Places.{size64}
 use Rattle.rows.specs.Rows.{shrOf, orShlOf, addOf}
-use Rattle.rows.proofs.Blocks.{Rewritten, rewritten-none, rewritten-length, rewritten-put, rewritten-eight, rewritten-all, start-in}
+use Rattle.rows.proofs.Blocks.{Laid, laid-none, laid-put, laid-all, start-in}
 use Rattle.packing.specs.Packed.{valueAt}
-use Rattle.packing.proofs.Turns.{At, at-first, at-lt, at-room, at-room-two, Read, read-within, read-full, read-over}
+use Rattle.packing.proofs.Walks.{At, at-first, at-lt, at-room, at-room-two, Read, read-within, read-full, read-over}
 use Rattle.deltas.specs.Deltas.{unforPackOf}
 use Rattle.deltas.proofs.Walks.{raised-row}
 use Rattle.deltas.proofs.t64.unpack_raised.Statement.{statement}
@@ -23,14 +23,14 @@ use Rattle.deltas.proofs.t64.unpack_raised.Tie as tie
 
 abbrev Inv-loop2 : tie.InvT-loop2
 Inv-loop2 width packed reference values₀ lift s₀ word₀ o i₀ values s word i =
-    (i ≤ 8) × At t64 width (o * 8 + i) s word × Rewritten t64 (o * 8) i (λ p. plus t64 (valueAt t64 width packed p) reference) values₀ values
+    (i ≤ 8) × At t64 width (o * 8 + i) s word × Laid t64 (o * 8 + i) (λ p. plus t64 (valueAt t64 width packed p) reference) values
 
 abbrev μ-loop2 : tie.MeasureT-loop2
 μ-loop2 width packed reference values₀ lift s₀ word₀ o i₀ values s word i = 8 - i
 
 abbrev Inv-loop : tie.InvT-loop
 Inv-loop width packed reference values₀ lift s₀ word₀ o₀ values s word o =
-    (o ≤ t64 / 8) × At t64 width (o * 8) s word × Rewritten t64 0 (o * 8) (λ p. plus t64 (valueAt t64 width packed p) reference) values₀ values
+    (o ≤ t64 / 8) × At t64 width (o * 8) s word × Laid t64 (o * 8) (λ p. plus t64 (valueAt t64 width packed p) reference) values
 
 abbrev μ-loop : tie.MeasureT-loop
 μ-loop width packed reference values₀ lift s₀ word₀ o₀ values s word o = t64 / 8 - o
@@ -39,10 +39,10 @@ splat-requires : tie.Need-splat-requires Inv-loop2 μ-loop2 Inv-loop μ-loop
 splat-requires c κs = search needs
 
 loop-holds : tie.Need-loop-holds Inv-loop2 μ-loop2 Inv-loop μ-loop
-loop-holds c = (search needs, at-first t64 _, rewritten-none (c .before .before .before .pre .1 .1))
+loop-holds c = (search needs, at-first t64 _, laid-none (c .before .before .before .pre .1 .1))
 
 loop2-holds : tie.Need-loop2-holds Inv-loop2 μ-loop2 Inv-loop μ-loop
-loop2-holds c = (search needs, rw add-zero (c .before .loop .inv .1), rewritten-none (rewritten-length (c .before .loop .inv .2)))
+loop2-holds c = (search needs, rw add-zero (c .before .loop .inv .1), rw add-zero (c .before .loop .inv .2))
 
 -- before the loops
 abbrev begun : tie.In-loop2 Inv-loop2 μ-loop2 Inv-loop μ-loop → tie.Start Inv-loop2 μ-loop2 Inv-loop μ-loop
@@ -93,7 +93,7 @@ wrapping-add-requires c κs = search needs
 put-at-requires : tie.Need-put-at-requires Inv-loop2 μ-loop2 Inv-loop μ-loop
 put-at-requires c κs =
     let in-loop = c .before .before .before .before .before .before .before in
-    rw (rewritten-length (in-loop .before .loop2 .inv .2)) (start-in size64 _ _ _ (in-loop .loop2-test .taken) (row-lt in-loop) (c .before .before .row-start .ensures))
+    rw (in-loop .before .loop2 .inv .2 .long) (start-in size64 _ _ _ (in-loop .loop2-test .taken) (row-lt in-loop) (c .before .before .row-start .ensures))
 
 add-i : tie.Need-add-i Inv-loop2 μ-loop2 Inv-loop μ-loop
 add-i c = omega arith
@@ -137,7 +137,7 @@ loop2-again c =
     let next = add-assoc (in-loop .before .before .before .loop .o * 8) (in-loop .before .loop2 .i) 1 in (
       omega arith,
       rw next at (read .next),
-      rewritten-put size64 _ _ _ (in-loop .loop2-test .taken) (row-lt in-loop) (at-start .row-start .ensures) (in-loop .before .loop2 .inv .2)
+      laid-put size64 _ _ _ (in-loop .loop2-test .taken) (row-lt in-loop) (at-start .row-start .ensures) (in-loop .before .loop2 .inv .2)
           (at-add .wrapping-add .ensures
           ∙ ap₂ (addOf t64) (at-add .before .mask .ensures ∙ read .cut) (in-loop .before .before .before .before .splat .ensures)
           ∙ raised-row t64 _ _)
@@ -154,16 +154,15 @@ loop-again : tie.Need-loop-again Inv-loop2 μ-loop2 Inv-loop μ-loop
 loop-again c =
     let o = c .before .before .before .loop .o in
     let inv = c .before .loop2 .inv in
-    let e : c .before .loop2 .i ≡ 8 = omega arith in
     let next : o * 8 + c .before .loop2 .i ≡ (o + 1) * 8 = omega arith in
-    (omega arith, rw next at (inv .1), rewritten-eight o (c .before .before .before .loop .inv .2) (rw e at (inv .2 .is)))
+    (omega arith, rw next at (inv .1), rw next at (inv .2))
 
 same-length : tie.Need-same-length Inv-loop2 μ-loop2 Inv-loop μ-loop
-same-length c = omega (arith, rewritten-length (c .before .loop .inv .2))
+same-length c = omega (arith, c .before .loop .inv .2 .long)
 
 returns : tie.Need-returns Inv-loop2 μ-loop2 Inv-loop μ-loop
 unfolding unforPackOf
-returns c = rewritten-all size64 (c .before .loop .inv .2) (omega arith)
+returns c = laid-all size64 (c .before .loop .inv .2) (omega arith)
 
 pub unpack-raised-spec : {M : Type 1} → statement M
 unpack-raised-spec =

@@ -4,7 +4,7 @@
 use mathlib.Core.Path.{_≡_, sym, ap, _∙_}
 use mathlib.Core.Logic.{⊎-elim}
 use Prim.Native.Nat.{_+_, _-_, _*_, _/_, _≤_, _<_}
-use native.Mathlib.Nat.{zero-add, add-zero, add-assoc}
+use native.Mathlib.Nat.{add-zero, add-assoc}
 use native.Mathlib.Omega.{arith}
 use denote.Ref.{now}
 use lib.ListN.{length}
@@ -13,27 +13,24 @@ use Rattle.places.specs.Sizes.{t64, lanes}
 use Rattle.places.specs.Numbers.{Elements}
 use Rattle.places.proofs.Places.{size64}
 use Rattle.rows.specs.Rows.{shrOf, orShlOf}
-use Rattle.rows.proofs.Blocks.{Rewritten, rewritten-none, rewritten-length, rewritten-put, rewritten-eight, rewritten-all, start-in}
+use Rattle.rows.proofs.Blocks.{start-at, start-in}
 use Rattle.packing.specs.Packed.{unpackOf}
-use Rattle.packing.proofs.Turns.{At, at-first, at-lt, at-room, at-room-two, Read, read-within, read-full, read-over}
-use Rattle.deltas.specs.InnerWalks.{sumRow, sumAt}
+use Rattle.packing.proofs.Walks.{At, at-first, at-lt, at-room, at-room-two, Read, read-within, read-full, read-over}
 use Rattle.deltas.proofs.Demand3.{undelta-pack-is}
-use Rattle.deltas.proofs.Walks.{load-base, sum-base, sum-turn, undelta-sums, unpacked-row}
+use Rattle.deltas.proofs.Walks.{Summing, summing-none, summing-next, summing-all, unpacked-row}
 use Rattle.deltas.proofs.t64.unpack_sums.Statement.{statement}
 use Rattle.deltas.proofs.t64.unpack_sums.Tie as tie
 
 abbrev Inv-loop2 : tie.InvT-loop2
 Inv-loop2 width packed base values₀ prev₀ s₀ word₀ o i₀ values prev s word i =
-    (i ≤ 8) × At t64 width (o * 8 + i) s word × Rewritten t64 (o * 8) i (sumAt t64 (unpackOf t64 width packed) base 0) values₀ values
-    × (prev ≡ sumRow t64 (unpackOf t64 width packed) base 0 (o * 8 + i))
+    (i ≤ 8) × At t64 width (o * 8 + i) s word × Summing t64 (unpackOf t64 width packed) base (o * 8 + i) values prev
 
 abbrev μ-loop2 : tie.MeasureT-loop2
 μ-loop2 width packed base values₀ prev₀ s₀ word₀ o i₀ values prev s word i = 8 - i
 
 abbrev Inv-loop : tie.InvT-loop
 Inv-loop width packed base values₀ prev₀ s₀ word₀ o₀ values prev s word o =
-    (o ≤ t64 / 8) × At t64 width (o * 8) s word × Rewritten t64 0 (o * 8) (sumAt t64 (unpackOf t64 width packed) base 0) values₀ values
-    × (prev ≡ sumRow t64 (unpackOf t64 width packed) base 0 (o * 8))
+    (o ≤ t64 / 8) × At t64 width (o * 8) s word × Summing t64 (unpackOf t64 width packed) base (o * 8) values prev
 
 abbrev μ-loop : tie.MeasureT-loop
 μ-loop width packed base values₀ prev₀ s₀ word₀ o₀ values prev s word o = t64 / 8 - o
@@ -43,18 +40,11 @@ load-requires c κs = search needs
 
 loop-holds : tie.Need-loop-holds Inv-loop2 μ-loop2 Inv-loop μ-loop
 loop-holds c =
-    let start = c .before .before .before .before in
-    let long = start .pre .1 .1 .0 in (
-      search needs,
-      at-first t64 _,
-      rewritten-none (start .pre .1 .1 .1),
-      c .load .ensures
-          ∙ load-base t64 _ long
-          ∙ sum-base t64 (unpackOf t64 (start .args .width) (now (start .args .packed))) _ _ long,
-    )
+    let pre = c .before .before .before .before .pre .1 .1 in
+    (search needs, at-first t64 _, summing-none (pre .0) (pre .1) (c .load .ensures))
 
 loop2-holds : tie.Need-loop2-holds Inv-loop2 μ-loop2 Inv-loop μ-loop
-loop2-holds c = (search needs, rw add-zero (c .before .loop .inv .1), rewritten-none (rewritten-length (c .before .loop .inv .2)), rw add-zero (c .before .loop .inv .3))
+loop2-holds c = (search needs, rw add-zero (c .before .loop .inv .1), rw add-zero (c .before .loop .inv .2))
 
 -- before the loops
 abbrev begun : tie.In-loop2 Inv-loop2 μ-loop2 Inv-loop μ-loop → tie.Start Inv-loop2 μ-loop2 Inv-loop μ-loop
@@ -105,7 +95,7 @@ row-start-requires c κs = search needs
 put-at-requires : tie.Need-put-at-requires Inv-loop2 μ-loop2 Inv-loop μ-loop
 put-at-requires c κs =
     let in-loop = c .before .before .before .before .before .before .before in
-    rw (rewritten-length (in-loop .before .loop2 .inv .2)) (start-in size64 _ _ _ (in-loop .loop2-test .taken) (row-lt in-loop) (c .row-start .ensures))
+    rw (in-loop .before .loop2 .inv .2 .laid .long) (start-in size64 _ _ _ (in-loop .loop2-test .taken) (row-lt in-loop) (c .row-start .ensures))
 
 add-i : tie.Need-add-i Inv-loop2 μ-loop2 Inv-loop μ-loop
 add-i c = omega arith
@@ -147,17 +137,14 @@ loop2-again c =
     let in-loop = turn .before .before .before in
     let start = begun in-loop in
     let packed = now (start .args .packed) in
-    let inv = in-loop .before .loop2 .inv in
     let hr = row-lt in-loop in
-    let r = in-loop .before .before .before .loop .o * 8 + in-loop .before .loop2 .i in
+    let found = start-at size64 _ _ _ (in-loop .loop2-test .taken) hr (at-start .row-start .ensures) in
     let read = is-read turn in
-    let row = at-add .before .mask .ensures ∙ read .cut ∙ unpacked-row size64 (start .args .width) r packed hr in
-    let sum = sum-turn size64 (unpackOf t64 (start .args .width) packed) _ 0 r (rw zero-add hr) (rw zero-add row) (inv .3) (at-add .wrapping-add .ensures) in
+    let row = at-add .before .mask .ensures ∙ read .cut ∙ unpacked-row size64 (start .args .width) _ packed hr in
     let next = add-assoc (in-loop .before .before .before .loop .o * 8) (in-loop .before .loop2 .i) 1 in (
       omega arith,
       rw next at (read .next),
-      rewritten-put size64 _ _ _ (in-loop .loop2-test .taken) hr (at-start .row-start .ensures) (inv .2) (rw zero-add at (sum .1)) (c .before .before .put-at .ensures),
-      rw next at (sum .0),
+      rw next at (summing-next size64 hr (in-loop .before .loop2 .inv .2) found row (at-add .wrapping-add .ensures) (c .before .before .put-at .ensures)),
     )
 
 add-o : tie.Need-add-o Inv-loop2 μ-loop2 Inv-loop μ-loop
@@ -170,18 +157,16 @@ loop-again : tie.Need-loop-again Inv-loop2 μ-loop2 Inv-loop μ-loop
 loop-again c =
     let o = c .before .before .before .loop .o in
     let inv = c .before .loop2 .inv in
-    let e : c .before .loop2 .i ≡ 8 = omega arith in
     let next : o * 8 + c .before .loop2 .i ≡ (o + 1) * 8 = omega arith in
-    (omega arith, rw next at (inv .1), rewritten-eight o (c .before .before .before .loop .inv .2) (rw e at (inv .2 .is)), rw next at (inv .3))
+    (omega arith, rw next at (inv .1), rw next at (inv .2))
 
 same-length : tie.Need-same-length Inv-loop2 μ-loop2 Inv-loop μ-loop
-same-length c = omega (arith, rewritten-length (c .before .loop .inv .2))
+same-length c = omega (arith, c .before .loop .inv .2 .laid .long)
 
 returns : tie.Need-returns Inv-loop2 μ-loop2 Inv-loop μ-loop
 returns c =
     let start = c .before .before .before .before .before .before in
-    rewritten-all size64 (c .before .loop .inv .2) (omega arith)
-    ∙ undelta-sums t64 _ _
+    summing-all size64 (c .before .loop .inv .2) (omega arith)
     ∙ sym (undelta-pack-is size64 (start .args .width) (now (start .args .packed)) (now (start .args .base)))
 
 pub unpack-sums-spec : {M : Type 1} → statement M

@@ -1,41 +1,66 @@
--- `packing::t64::pack_copy` meets its contract. The loop's invariant: the words of the first o · 8 rows are copied.
+-- `packing::t64::pack_copy` meets its contract. The loop's invariant: the first r rows of words are copied, and row r starts at `start`.
 -- Assumes nothing.
 use mathlib.Core.Path.{_≡_, sym, _∙_}
-use Prim.Native.Nat.{ℕ, _-_, _*_, _/_, _≤_}
+use Prim.Native.Nat.{ℕ, _-_, _^_, _≤_, _<_}
 use native.Mathlib.Omega.{arith}
+use denote.Ref.{now}
+use lib.ListN.{getD}
 use borrow.Author.Needs.{needs}
 use Rattle.places.specs.Sizes.{t64}
-use Rattle.packing.specs.InnerWalks.{Filled}
-use Rattle.packing.proofs.Turns.{filled-none, filled-all}
+use Rattle.places.proofs.Places.{size64}
+use Rattle.rows.proofs.Blocks.{row-from, Starts, starts-first, starts-at, starts-room, starts-next}
+use Rattle.packing.proofs.Walks.{Filled, filled-none, filled-next, filled-all, copied-words}
 use Rattle.packing.proofs.t64.pack_copy.Statement.{statement}
 use Rattle.packing.proofs.t64.pack_copy.Tie as tie
 
 abbrev Inv-loop : tie.InvT-loop
-Inv-loop values packed₀ o₀ packed o = (o ≤ t64 / 8) × Filled t64 t64 values (o * 8) packed
+Inv-loop values packed₀ start₀ r₀ packed start r = (r ≤ t64) × Starts r start × Filled t64 t64 values r packed
 
 abbrev μ-loop : tie.MeasureT-loop
-μ-loop values packed₀ o₀ packed o = t64 / 8 - o
+μ-loop values packed₀ start₀ r₀ packed start r = t64 - r
 
 loop-holds : tie.Need-loop-holds Inv-loop μ-loop
-loop-holds c = (search needs, filled-none (c .before .before .pre .0))
+loop-holds c = (search needs, starts-first, filled-none (c .before .before .pre .0))
 
-pack-copy-eight-requires : tie.Need-pack-copy-eight-requires Inv-loop μ-loop
-pack-copy-eight-requires c κs = (c .before .before .before .before .before .pre .1, (c .before .loop-test .taken, c .before .before .loop .inv .1))
+mul-put-at : tie.Need-mul-put-at Inv-loop μ-loop
+mul-put-at c = omega arith
 
-add-o : tie.Need-add-o Inv-loop μ-loop
-add-o c = omega arith
+row-at-requires : tie.Need-row-at-requires Inv-loop μ-loop
+row-at-requires c κs = omega (arith, starts-room size64 (c .before .loop-test .taken) (c .before .before .loop .inv .1))
+
+put-at-requires : tie.Need-put-at-requires Inv-loop μ-loop
+put-at-requires c κs = omega (arith, c .before .before .before .loop .inv .2 .fits)
+
+add-r : tie.Need-add-r Inv-loop μ-loop
+add-r c = omega arith
+
+next-start-requires : tie.Need-next-start-requires Inv-loop μ-loop
+next-start-requires c κs = search needs
 
 loop-less : tie.Need-loop-less Inv-loop μ-loop
 loop-less c = omega arith
 
 loop-again : tie.Need-loop-again Inv-loop μ-loop
-loop-again c = (omega arith, c .before .before .pack-copy-eight .ensures)
+loop-again c =
+    let at-row = c .before .before .before .before in
+    let in-loop = at-row .before .before in
+    let known = in-loop .before .before .before in
+    let values = now (known .before .args .values) in
+    let small : (p : ℕ) → getD values p 0 < 2 ^ t64 = λ p. omega (arith, known .shared-slice-known .given p) in
+    let inv = in-loop .before .loop .inv in
+    let r = in-loop .before .loop .r in
+    let hr = in-loop .loop-test .taken in
+    let words = row-from t64 r _ values (starts-at size64 hr (inv .1)) ∙ copied-words size64 r values (λ p _. small p) hr in (
+      omega arith,
+      starts-next size64 hr (inv .1) (c .next-start .ensures),
+      filled-next r hr (inv .2) (at-row .row-at .ensures ∙ words) (c .before .before .before .put-at .ensures),
+    )
 
 same-length : tie.Need-same-length Inv-loop μ-loop
-same-length c = c .before .loop .inv .1 .fits ∙ sym (c .before .before .before .before .pre .0)
+same-length c = c .before .loop .inv .2 .fits ∙ sym (c .before .before .before .before .pre .0)
 
 returns : tie.Need-returns Inv-loop μ-loop
-returns c = filled-all _ (omega arith) (c .before .loop .inv .1)
+returns c = filled-all (c .before .loop .r) (omega arith) (c .before .loop .inv .2)
 
 pub pack-copy-spec : {M : Type 1} → statement M
 pack-copy-spec =
@@ -44,8 +69,11 @@ pack-copy-spec =
     Inv-loop
     μ-loop
     loop-holds
-    pack-copy-eight-requires
-    add-o
+    mul-put-at
+    row-at-requires
+    put-at-requires
+    add-r
+    next-start-requires
     loop-less
     loop-again
     same-length

@@ -1,0 +1,103 @@
+-- Written by tools/sizes from the text of size 64: edit that one, and run tools/sizes.
+-- `deltas::t8::copy_raised` meets its contract. The loop's invariant: the first r rows hold their values, raised by the reference, and row r
+-- starts at `start`.
+-- Assumes nothing.
+use mathlib.Core.Path.{ap₂, _∙_}
+use Prim.Native.Nat.{_-_, _≤_}
+use native.Mathlib.Omega.{arith}
+use denote.Ref.{now}
+use borrow.Author.Needs.{needs}
+use Rattle.places.specs.Numbers.{plus, Elements}
+use Rattle.places.specs.Sizes.{t8}
+use Rattle.places.proofs.Places.{size8}
+use Rattle.rows.specs.Rows.{addOf}
+use Rattle.rows.proofs.Blocks.{Laid, laid-none, laid-next, laid-all, Starts, starts-first, starts-at, starts-room, starts-next}
+use Rattle.packing.specs.Packed.{valueAt}
+use Rattle.packing.proofs.Walks.{copied-row}
+use Rattle.deltas.specs.Deltas.{unforPackOf}
+use Rattle.deltas.proofs.Walks.{raised-row}
+use Rattle.deltas.proofs.t8.copy_raised.Statement.{statement}
+use Rattle.deltas.proofs.t8.copy_raised.Tie as tie
+
+abbrev Inv-loop : tie.InvT-loop
+Inv-loop packed reference values₀ lift start₀ r₀ values start r =
+    (r ≤ t8) × Starts r start × Laid t8 r (λ p. plus t8 (valueAt t8 t8 packed p) reference) values
+
+abbrev μ-loop : tie.MeasureT-loop
+μ-loop packed reference values₀ lift start₀ r₀ values start r = t8 - r
+
+splat-requires : tie.Need-splat-requires Inv-loop μ-loop
+splat-requires c κs = search needs
+
+loop-holds : tie.Need-loop-holds Inv-loop μ-loop
+loop-holds c = (search needs, starts-first, laid-none (c .before .before .before .pre .1))
+
+mul-row-at : tie.Need-mul-row-at Inv-loop μ-loop
+mul-row-at c = omega arith
+
+row-at-requires : tie.Need-row-at-requires Inv-loop μ-loop
+row-at-requires c κs = omega arith
+
+wrapping-add-requires : tie.Need-wrapping-add-requires Inv-loop μ-loop
+wrapping-add-requires c κs = search needs
+
+put-at-requires : tie.Need-put-at-requires Inv-loop μ-loop
+put-at-requires c κs =
+    let in-loop = c .before .before .before in
+    let inv = in-loop .before .loop .inv in
+    omega (arith, starts-room size8 (in-loop .loop-test .taken) (inv .1), inv .2 .long)
+
+add-r : tie.Need-add-r Inv-loop μ-loop
+add-r c = omega arith
+
+next-start-requires : tie.Need-next-start-requires Inv-loop μ-loop
+next-start-requires c κs = search needs
+
+loop-less : tie.Need-loop-less Inv-loop μ-loop
+loop-less c = omega arith
+
+loop-again : tie.Need-loop-again Inv-loop μ-loop
+loop-again c =
+    let at-add = c .before .before .before .before in
+    let at-row = at-add .before in
+    let in-loop = at-row .before .before in
+    let at-loop = in-loop .before in
+    let known = at-loop .before .before .before in
+    let packed = now (known .before .args .packed) in
+    let small : Elements t8 packed = λ i. omega (arith, known .shared-slice-known .given i) in
+    let inv = at-loop .loop .inv in
+    let hr = in-loop .loop-test .taken in
+    let row =
+    at-add .wrapping-add .ensures
+    ∙ ap₂ (addOf t8) (at-row .row-at .ensures ∙ copied-row size8 _ packed small hr) (at-loop .before .splat .ensures)
+    ∙ raised-row t8 _ _ in (
+      omega arith,
+      starts-next size8 hr (inv .1) (c .next-start .ensures),
+      laid-next size8 hr (inv .2) (starts-at size8 hr (inv .1)) row (c .before .before .before .put-at .ensures),
+    )
+
+same-length : tie.Need-same-length Inv-loop μ-loop
+same-length c = omega (arith, c .before .loop .inv .2 .long)
+
+returns : tie.Need-returns Inv-loop μ-loop
+unfolding unforPackOf
+returns c = laid-all size8 (c .before .loop .inv .2) (omega arith)
+
+pub copy-raised-spec : {M : Type 1} → statement M
+copy-raised-spec =
+    tie.close
+    (tie.spec
+    Inv-loop
+    μ-loop
+    splat-requires
+    loop-holds
+    mul-row-at
+    row-at-requires
+    wrapping-add-requires
+    put-at-requires
+    add-r
+    next-start-requires
+    loop-less
+    loop-again
+    same-length
+    returns)
