@@ -1,4 +1,5 @@
 pub mod Accepted
+pub mod Anew
 pub mod Answers
 pub mod Bytes
 pub mod Checks

@@ -1,3 +1,4 @@
+pub mod Anew
 pub mod Answers
 pub mod Digits
 pub mod Every
