@@ -1,5 +1,4 @@
 pub mod Accepted
-pub mod Anew
 pub mod Answers
 pub mod Bytes
 pub mod Checks
