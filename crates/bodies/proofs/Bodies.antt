@@ -6,7 +6,7 @@ use mathlib.Core.Path.{_≡_, refl, sym, ap, ap₂, _∙_, subst}
 use Prim.Native.Nat.{ℕ, _+_, _*_, _-_, _≤_, _<_}
 use native.Mathlib.Decide.{decLe}
 use native.Mathlib.Omega.{arith}
-use lib.Dec.{eqb, ltb}
+use lib.Dec.{eqb, ltb, leb}
 use lib.ListN.{length, take, drop, replicate, length-drop, length-replicate}
 use lib.Seq.{take-all, length-take-le}
 use borrow.Author.Tests.{le-leb, lt-leb, lt-ltb, le-ltb, eq-eqb, ne-eqb}
@@ -31,7 +31,7 @@ pub use Rattle.little.proofs.Little.{length-numbers, numbers-read}
 use Rattle.contents.specs.declared.Entry.{Entry}
 use Rattle.contents.specs.declared.FileAnswer.{FileAnswer}
 use Rattle.contents.specs.declared.FileAnswer.the-variants.{Done, Block, Cut, BadEntry, Over, Runs}
-use Rattle.contents.specs.Answers.{enough, an-end, good-runs, fileAnswer, numberOf, left}
+use Rattle.contents.specs.Answers.{fileAnswer, numberOf, left}
 use Rattle.contents.specs.Contents.{isLaidOut}
 use Rattle.contents.proofs.Answers.{passed, stopped, none-left, left-refused}
 use Rattle.contents.proofs.Laid.{laid-packed, laid-frame}
@@ -146,18 +146,18 @@ module _ (body indices values output : List ℕ) (b : length body ≡ 2048 + 8 *
       ∙ ap (λ d. pick d (decodeOf (wordsFrom body 2048 (length values)) (runIndices body)) output) indices-taken
 
 -- The last test is that of the run indices. Where they are good the answer is done, and where they are not it is a refusal.
-last-answer : (b : Bool) → fileAnswer (good-runs (pick b 1 0) 1 ∷ []) ≡ pick b Done (Runs 0)
-last-answer true = passed (good-runs 1 1) [] refl ∙ none-left
-last-answer false = stopped (good-runs 0 1) [] refl
+last-answer : (b : Bool) → fileAnswer ((b, Runs 0) ∷ []) ≡ pick b Done (Runs 0)
+last-answer true = passed _ [] refl ∙ none-left
+last-answer false = stopped _ [] refl
 
-pub runs-done : {b : Bool} → b ≡ true → Done ≡ fileAnswer (good-runs (pick b 1 0) 1 ∷ [])
+pub runs-done : {b : Bool} → b ≡ true → Done ≡ fileAnswer ((b, Runs 0) ∷ [])
 runs-done {b} h = sym (last-answer b ∙ ap (λ x. pick x Done (Runs 0)) h)
 
-pub runs-bad : {b : Bool} → b ≡ false → Runs 0 ≡ fileAnswer (good-runs (pick b 1 0) 1 ∷ [])
+pub runs-bad : {b : Bool} → b ≡ false → Runs 0 ≡ fileAnswer ((b, Runs 0) ∷ [])
 runs-bad {b} h = sym (last-answer b ∙ ap (λ x. pick x Done (Runs 0)) h)
 
 -- So an output is left as the run indices say.
-last-left : (b : Bool) (new old : List ℕ) → left (fileAnswer (good-runs (pick b 1 0) 1 ∷ [])) new old ≡ pick b new old
+last-left : (b : Bool) (new old : List ℕ) → left (fileAnswer ((b, Runs 0) ∷ [])) new old ≡ pick b new old
 last-left true new old = ap (λ a. left a new old) (last-answer true)
 last-left false new old = ap (λ a. left a new old) (last-answer false)
 
@@ -170,7 +170,7 @@ module _ (e : Entry) (body : List ℕ) where
 
   -- so the call is done when its block is laid down.
   pub other-done : (new output : List ℕ) → (e .kind ≡ 3 → ⊥) → new ≡ blockOf e body
-      → (Done ≡ fileAnswer (good-runs (pick (hasGoodRuns e body) 1 0) 1 ∷ [])) × (new ≡ pick (hasGoodRuns e body) (blockOf e body) output)
+      → (Done ≡ fileAnswer ((hasGoodRuns e body, Runs 0) ∷ [])) × (new ≡ pick (hasGoodRuns e body) (blockOf e body) output)
   other-done new output k h = (runs-done (other-runs k), h ∙ sym (ap (λ b. pick b (blockOf e body) output) (other-runs k)))
 
   -- In a body of runs every index is looked at.
@@ -179,12 +179,12 @@ module _ (e : Entry) (body : List ℕ) where
   runs-runs k = simp (eq-eqb (e .kind) 3 k)
 
   pub not-laid : isLaidOut e ≡ false → fileAnswer (bodyTests e body) ≡ BadEntry 0
-  not-laid f = stopped _ _ (ap (λ b. eqb (pick b 1 0) 1) f) ∙ ap (λ b. BadEntry (pick b 1 0)) f
+  not-laid f = stopped _ _ f
 
   module _ (good : isLaidOut e ≡ true) where
     laid : fileAnswer (bodyTests e body)
-        ≡ fileAnswer (enough (e .length) (length body) ∷ an-end (e .length) (length body) ∷ good-runs (pick (hasGoodRuns e body) 1 0) 1 ∷ [])
-    laid = passed _ _ (ap (λ b. eqb (pick b 1 0) 1) good)
+        ≡ fileAnswer ((leb (e .length) (length body), Cut) ∷ (leb (length body) (e .length), Over) ∷ (hasGoodRuns e body, Runs 0) ∷ [])
+    laid = passed _ _ good
 
     pub body-cut : length body < e .length → fileAnswer (bodyTests e body) ≡ Cut
     body-cut h = laid ∙ stopped _ _ (lt-leb (e .length) (length body) h)
@@ -195,7 +195,7 @@ module _ (e : Entry) (body : List ℕ) where
         ∙ passed _ _ (le-leb (e .length) (length body) (omega arith))
         ∙ stopped _ _ (lt-leb (length body) (e .length) h)
 
-    pub body-whole : length body ≡ e .length → fileAnswer (bodyTests e body) ≡ fileAnswer (good-runs (pick (hasGoodRuns e body) 1 0) 1 ∷ [])
+    pub body-whole : length body ≡ e .length → fileAnswer (bodyTests e body) ≡ fileAnswer ((hasGoodRuns e body, Runs 0) ∷ [])
     body-whole h =
         laid
         ∙ passed _ _ (le-leb (e .length) (length body) (omega arith))
@@ -216,7 +216,7 @@ module _ (e : Entry) (body : List ℕ) where
 
     -- For a body that is as its entry says, the run indices decide.
     module _ (good : isLaidOut e ≡ true) (h : length body ≡ e .length) (o : length output ≡ 1024) where
-      pub block-answer : fileAnswer (blockTests e body output) ≡ fileAnswer (good-runs (pick (hasGoodRuns e body) 1 0) 1 ∷ [])
+      pub block-answer : fileAnswer (blockTests e body output) ≡ fileAnswer ((hasGoodRuns e body, Runs 0) ∷ [])
       block-answer = good-output o ∙ body-whole good h
 
       pub block-left : blockLeaves e body output ≡ pick (hasGoodRuns e body) (blockOf e body) output

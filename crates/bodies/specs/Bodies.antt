@@ -4,8 +4,9 @@
 use mathlib.Core.Bool.{Bool, true}
 use mathlib.Core.List.{List, [], _∷_}
 use Prim.Native.Nat.{ℕ, _*_, _-_, _/_}
-use lib.Dec.{eqb}
+use lib.Dec.{eqb, leb}
 use lib.ListN.{length, drop}
+use Rattle.places.specs.Takes.{long}
 use Rattle.places.specs.Pick.{pick}
 use Rattle.places.specs.Search.{firstBeyond}
 use Rattle.places.specs.Sizes.{t64, lanes}
@@ -13,8 +14,9 @@ use Rattle.packing.specs.Packed.{unpackOf}
 use Rattle.deltas.specs.Deltas.{unforPackOf, undeltaPackOf}
 use Rattle.runs.specs.Runs.{decodeOf}
 use Rattle.little.specs.Little.{numbersOf}
+use Rattle.contents.specs.declared.FileAnswer.the-variants.{BadEntry, Block, Cut, Over, Runs}
 use Rattle.contents.specs.declared.Entry.{Entry}
-use Rattle.contents.specs.Answers.{FileTest, a-block, enough, laid-out, an-end, good-runs, fileAnswer, left}
+use Rattle.contents.specs.Answers.{FileTest, fileAnswer, left}
 use Rattle.contents.specs.Contents.{isLaidOut}
 
 -- These are the n words of eight bytes each that stand in the body from byte `at` on.
@@ -52,15 +54,15 @@ hasGoodRuns e body = pick (eqb (e .kind) 3) (indexed (valueCount e) body) true
 -- These are the tests of one body against its entry. There is one entry and one block here, so the place of 10 and of 13 is 0.
 abbrev pub bodyTests : (e : Entry) (body : List ℕ) → List FileTest
 bodyTests e body =
-    laid-out (pick (isLaidOut e) 1 0) 1
-    ∷ enough (e .length) (length body)
-    ∷ an-end (e .length) (length body)
-    ∷ good-runs (pick (hasGoodRuns e body) 1 0) 1
+    (isLaidOut e, BadEntry 0)
+    ∷ (leb (e .length) (length body), Cut)
+    ∷ (leb (length body) (e .length), Over)
+    ∷ (hasGoodRuns e body, Runs 0)
     ∷ []
 
 -- Laying a block down tests its output too.
 abbrev pub blockTests : (e : Entry) (body output : List ℕ) → List FileTest
-blockTests e body output = a-block output ∷ bodyTests e body
+blockTests e body output = (long 1024 output, Block) ∷ bodyTests e body
 
 -- Laying a block down leaves this in its output.
 unfoldable pub blockLeaves : (e : Entry) (body output : List ℕ) → List ℕ

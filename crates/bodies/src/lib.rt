@@ -23,7 +23,8 @@ ghost use Rattle.places.specs.Sizes.{t64, lanes};
 ghost use Rattle.deltas.specs.Deltas.{undeltaPackOf};
 ghost use Rattle.runs.specs.Highest.{highestOf};
 ghost use Rattle.runs.specs.Runs.{decodeOf};
-ghost use Rattle.contents.specs.Answers.{good-runs, fileAnswer, numberOf};
+ghost use Rattle.contents.specs.declared.FileAnswer.the-variants.{Runs};
+ghost use Rattle.contents.specs.Answers.{fileAnswer, numberOf};
 ghost use Rattle.contents.specs.Contents.{isLaidOut};
 ghost use Rattle.bodies.specs.Ranges.{lowestOf, isRange};
 ghost use Rattle.bodies.specs.Bodies.{runIndices, wordsFrom, packedFrom, blockOf, indexed, hasGoodRuns, bodyTests, blockTests, blockLeaves};
@@ -134,7 +135,7 @@ fn lay_down(e: Entry, body: &[u8], output: &mut [u64]) -> FileAnswer
     requires { ⌜ isLaidOut e ≡ true ⌝ }
     requires { ⌜ length (now body) ≡ e .length ⌝ }
     requires { ⌜ length (now output) ≡ 1024 ⌝ }
-    ensures { λ r. ⌜ r ≡ fileAnswer (good-runs (pick (hasGoodRuns e (now (body .entry))) 1 0) 1 ∷ []) ⌝ }
+    ensures { λ r. ⌜ r ≡ fileAnswer ((hasGoodRuns e (now (body .entry)), Runs 0) ∷ []) ⌝ }
     ensures { λ _. ⌜ now (output .exit) ≡ pick (hasGoodRuns e (now (body .entry))) (blockOf e (now (body .entry))) (now (output .entry)) ⌝ }
 {
     let kind = e.kind;
@@ -241,7 +242,7 @@ fn runs_out(n: usize, body: &[u8], output: &mut [u64]) -> FileAnswer
     requires { ⌜ n ≤ 1024 ⌝ }
     requires { ⌜ length (now body) ≡ 2048 + 8 * n ⌝ }
     requires { ⌜ length (now output) ≡ 1024 ⌝ }
-    ensures { λ r. ⌜ r ≡ fileAnswer (good-runs (pick (indexed n (now (body .entry))) 1 0) 1 ∷ []) ⌝ }
+    ensures { λ r. ⌜ r ≡ fileAnswer ((indexed n (now (body .entry)), Runs 0) ∷ []) ⌝ }
     ensures { λ _. ⌜ now (output .exit) ≡ pick (indexed n (now (body .entry))) (decodeOf (wordsFrom (now (body .entry)) 2048 n) (runIndices (now (body .entry)))) (now (output .entry)) ⌝ }
 {
     if n <= 64 {
@@ -254,7 +255,7 @@ fn runs_few(n: usize, body: &[u8], output: &mut [u64]) -> FileAnswer
     requires { ⌜ n ≤ 64 ⌝ }
     requires { ⌜ length (now body) ≡ 2048 + 8 * n ⌝ }
     requires { ⌜ length (now output) ≡ 1024 ⌝ }
-    ensures { λ r. ⌜ r ≡ fileAnswer (good-runs (pick (indexed n (now (body .entry))) 1 0) 1 ∷ []) ⌝ }
+    ensures { λ r. ⌜ r ≡ fileAnswer ((indexed n (now (body .entry)), Runs 0) ∷ []) ⌝ }
     ensures { λ _. ⌜ now (output .exit) ≡ pick (indexed n (now (body .entry))) (decodeOf (wordsFrom (now (body .entry)) 2048 n) (runIndices (now (body .entry)))) (now (output .entry)) ⌝ }
 {
     let mut indices = [0u16; 1024];
@@ -266,7 +267,7 @@ fn runs_many(n: usize, body: &[u8], output: &mut [u64]) -> FileAnswer
     requires { ⌜ n ≤ 1024 ⌝ }
     requires { ⌜ length (now body) ≡ 2048 + 8 * n ⌝ }
     requires { ⌜ length (now output) ≡ 1024 ⌝ }
-    ensures { λ r. ⌜ r ≡ fileAnswer (good-runs (pick (indexed n (now (body .entry))) 1 0) 1 ∷ []) ⌝ }
+    ensures { λ r. ⌜ r ≡ fileAnswer ((indexed n (now (body .entry)), Runs 0) ∷ []) ⌝ }
     ensures { λ _. ⌜ now (output .exit) ≡ pick (indexed n (now (body .entry))) (decodeOf (wordsFrom (now (body .entry)) 2048 n) (runIndices (now (body .entry)))) (now (output .entry)) ⌝ }
 {
     let mut indices = [0u16; 1024];
@@ -283,7 +284,7 @@ fn runs_through(
     requires { ⌜ length (now body) ≡ 2048 + 8 * length (now values) ⌝ }
     requires { ⌜ length (now indices) ≡ 1024 ⌝ }
     requires { ⌜ length (now output) ≡ 1024 ⌝ }
-    ensures { λ r. ⌜ r ≡ fileAnswer (good-runs (pick (indexed (length (now (values .entry))) (now (body .entry))) 1 0) 1 ∷ []) ⌝ }
+    ensures { λ r. ⌜ r ≡ fileAnswer ((indexed (length (now (values .entry))) (now (body .entry)), Runs 0) ∷ []) ⌝ }
     ensures { λ _. ⌜ now (output .exit) ≡ pick (indexed (length (now (values .entry))) (now (body .entry))) (decodeOf (wordsFrom (now (body .entry)) 2048 (length (now (values .entry)))) (runIndices (now (body .entry)))) (now (output .entry)) ⌝ }
 {
     read_pairs(body, indices);
@@ -293,7 +294,7 @@ fn runs_through(
 
 // What decode's answer says of the run indices: its lengths are right, so a refusal is of an index.
 fn runs_answer(answer: Answer) -> FileAnswer
-    ensures { λ r. ⌜ r ≡ fileAnswer (good-runs (pick (isDone answer) 1 0) 1 ∷ []) ⌝ }
+    ensures { λ r. ⌜ r ≡ fileAnswer ((isDone answer, Runs 0) ∷ []) ⌝ }
 {
     if answer.number() == 0 {
         return FileAnswer::Done;

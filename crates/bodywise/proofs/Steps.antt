@@ -2,18 +2,18 @@
 -- Assumes nothing.
 use mathlib.Core.Bool.{Bool, true, false}
 use mathlib.Core.List.{List, [], _∷_}
-use mathlib.Core.Path.{_≡_, refl, sym, ap, ap₂, _∙_}
-use Prim.Native.Nat.{ℕ, suc}
+use mathlib.Core.Path.{_≡_, refl, sym, ap, _∙_}
+use Prim.Native.Nat.{ℕ}
 use native.Mathlib.Decide.{ℕ-discrete}
 use native.Mathlib.Omega.{arith}
-use lib.Dec.{eqb}
+use lib.Dec.{leb}
 use lib.ListN.{length}
 use borrow.Author.Tests.{eq-eqb, ne-eqb, eqb-true}
 use Rattle.places.specs.Pick.{pick}
 use Rattle.contents.specs.declared.Entry.{Entry}
 use Rattle.contents.specs.declared.FileAnswer.{FileAnswer}
-use Rattle.contents.specs.declared.FileAnswer.the-variants.{Done, Block, BadEntry, Runs, Range}
-use Rattle.contents.specs.Answers.{FileTest, enough, an-end, good-runs, passes, refusal, fileAnswer, numberOf, isDone, left}
+use Rattle.contents.specs.declared.FileAnswer.the-variants.{Done, BadEntry, Runs, Range, Cut, Over}
+use Rattle.contents.specs.Answers.{FileTest, fileAnswer, numberOf, isDone, left}
 use Rattle.contents.specs.Contents.{editionOr, entryOr, rangeOr, hasRightEntry}
 use Rattle.contents.proofs.Accepted.{done-first}
 use Rattle.contents.proofs.Answers.{passed, stopped, none-left, in-front-done, in-front-refused, left-refused, number-done}
@@ -22,7 +22,7 @@ use Rattle.bodies.specs.Bodies as Bodies
 use Rattle.bodies.specs.Bodies.{blockOf, hasGoodRuns}
 use Rattle.bodies.specs.Ranges.{isRange}
 use Rattle.bodywise.specs.InnerPlaced.{inBlock}
-use Rattle.bodywise.specs.Steps.{lowestAt, entryTest, runsTest, hasTrueRange, rangeTest, bodyTests, blockTests, blockLeaves, rangeTests, stepTests, stepOf}
+use Rattle.bodywise.specs.Steps.{entryTest, hasTrueRange, rangeTest, bodyTests, blockTests, blockLeaves, rangeTests, stepTests, stepOf}
 
 -- ---- the place of a refusal of one body
 
@@ -53,35 +53,31 @@ block-laid e body output done long =
 
 -- ---- a test of one entry or block alone
 
-lowest-tested : (i : ℕ) (test : Bool) → eqb (lowestAt i test) (suc i) ≡ test
-lowest-tested i true = eq-eqb (suc i) (suc i) refl
-lowest-tested i false = ne-eqb i (suc i) (λ e. omega arith)
-
 -- The tests that are the same but for the place of 13 give the same but for that place.
-placed-next : (i : ℕ) (x : FileTest) (xs ys : List FileTest) → inBlock i (refusal x) ≡ refusal x → inBlock i (fileAnswer xs) ≡ fileAnswer ys
+placed-next : (i : ℕ) (x : FileTest) (xs ys : List FileTest) → inBlock i (x .1) ≡ x .1 → inBlock i (fileAnswer xs) ≡ fileAnswer ys
     → inBlock i (fileAnswer (x ∷ xs)) ≡ fileAnswer (x ∷ ys)
-placed-next i x xs ys same rest = go (passes x) refl
+placed-next i x xs ys same rest = go (x .0) refl
   where
-    go : (b : Bool) → passes x ≡ b → inBlock i (fileAnswer (x ∷ xs)) ≡ fileAnswer (x ∷ ys)
+    go : (b : Bool) → x .0 ≡ b → inBlock i (fileAnswer (x ∷ xs)) ≡ fileAnswer (x ∷ ys)
     go true p = ap (inBlock i) (passed x xs p) ∙ rest ∙ sym (passed x ys p)
     go false p = ap (inBlock i) (stopped x xs p) ∙ same ∙ sym (stopped x ys p)
 
-placed-last : (i : ℕ) (test : Bool) → inBlock i (fileAnswer (good-runs (pick test 1 0) 1 ∷ [])) ≡ fileAnswer (good-runs (lowestAt i test) (suc i) ∷ [])
-placed-last i true = ap (inBlock i) (passed _ _ refl ∙ none-left) ∙ sym (passed _ _ (lowest-tested i true) ∙ none-left)
-placed-last i false = ap (inBlock i) (stopped _ _ refl) ∙ sym (stopped _ _ (lowest-tested i false))
+placed-last : (i : ℕ) (test : Bool) → inBlock i (fileAnswer ((test, Runs 0) ∷ [])) ≡ fileAnswer ((test, Runs i) ∷ [])
+placed-last i true = ap (inBlock i) (passed _ _ refl ∙ none-left) ∙ sym (passed _ _ refl ∙ none-left)
+placed-last i false = ap (inBlock i) (stopped _ _ refl) ∙ sym (stopped _ _ refl)
 
 module _ (front : List ℕ) (i : ℕ) where
   -- ---- the entry
 
   -- An entry that is right leaves the answer to the tests behind it, and one that is not is 10 with its place.
   pub entry-right : (xs : List FileTest) → hasRightEntry front i ≡ true → fileAnswer (entryTest front i ∷ xs) ≡ fileAnswer xs
-  entry-right xs e = passed _ _ (lowest-tested i (hasRightEntry front i) ∙ e)
+  entry-right xs e = passed _ _ e
 
   pub entry-wrong : (xs : List FileTest) → hasRightEntry front i ≡ false → fileAnswer (entryTest front i ∷ xs) ≡ BadEntry i
-  entry-wrong xs e = stopped _ _ (lowest-tested i (hasRightEntry front i) ∙ e) ∙ ap (λ t. BadEntry (lowestAt i t)) e
+  entry-wrong xs e = stopped _ _ e
 
   pub done-right : (xs : List FileTest) → fileAnswer (entryTest front i ∷ xs) ≡ Done → hasRightEntry front i ≡ true
-  done-right xs done = sym (lowest-tested i (hasRightEntry front i)) ∙ done-first (entryTest front i) xs done .0
+  done-right xs done = done-first (entryTest front i) xs refl done .0
 
   -- So a refusal of the entry alone is that of all tests that begin with it, and an entry that is not refused is right.
   pub entry-first : (xs : List FileTest) {a : FileAnswer} → a ≡ fileAnswer (entryTest front i ∷ []) → (numberOf a ≡ 0 → ⊥) → a ≡ fileAnswer (entryTest front i ∷ xs)
@@ -96,9 +92,9 @@ module _ (front : List ℕ) (i : ℕ) where
     -- Behind an entry that is right the tests of one body give what those of body i give, but for the place.
     pub body-placed : hasRightEntry front i ≡ true → inBlock i (fileAnswer (Bodies.bodyTests (entryOr front i) body)) ≡ fileAnswer (bodyTests front i body)
     body-placed right =
-        ap (inBlock i) (passed _ _ (ap (λ b. eqb (pick b 1 0) 1) (right-laid front i right)))
-        ∙ placed-next i (enough (entryOr front i .length) (length body)) _ _ refl
-        (placed-next i (an-end (entryOr front i .length) (length body)) _ _ refl (placed-last i (hasGoodRuns (entryOr front i) body)))
+        ap (inBlock i) (passed _ _ (right-laid front i right))
+        ∙ placed-next i (leb (entryOr front i .length) (length body), Cut) _ _ refl
+        (placed-next i (leb (length body) (entryOr front i .length), Over) _ _ refl (placed-last i (hasGoodRuns (entryOr front i) body)))
         ∙ sym (entry-right _ right)
 
     -- A body that passes them is as its entry says.
@@ -151,7 +147,7 @@ module _ (front : List ℕ) (i : ℕ) where
         -- and then the range decides.
         pub step-range : fileAnswer (bodyTests front i body) ≡ Done
             → stepOf a front i body ≡ fileAnswer (rangeTests front i (blockOf (entryOr front i) body))
-        step-range done = step-next ∙ in-front-done (bodyTests front i body) _ done ∙ sym (entry-right _ (done-right _ done))
+        step-range done = step-next ∙ in-front-done (bodyTests front i body) _ refl done ∙ sym (entry-right _ (done-right _ done))
 
   -- ---- the range
 
@@ -171,8 +167,8 @@ module _ (front : List ℕ) (i : ℕ) where
     range-tested {test} = go test
       where
         go : (test : Bool) → hasTrueRange front i block ≡ test → fileAnswer (rangeTest front i block ∷ []) ≡ pick test Done (Range i)
-        go true e = passed _ _ (lowest-tested i (hasTrueRange front i block) ∙ e) ∙ none-left
-        go false e = stopped _ _ (lowest-tested i (hasTrueRange front i block) ∙ e) ∙ ap (λ t. Range (lowestAt i t)) e
+        go true e = passed _ _ e ∙ none-left
+        go false e = stopped _ _ e
 
     pub range-answer : {test : Bool} → hasRightEntry front i ≡ true → hasTrueRange front i block ≡ test → fileAnswer (rangeTests front i block) ≡ pick test Done (Range i)
     range-answer right e = entry-right _ right ∙ range-tested e

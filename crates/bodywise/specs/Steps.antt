@@ -10,25 +10,22 @@ use mathlib.Core.List.{List, [], _∷_, _++_}
 use Prim.Native.Nat.{ℕ, zero, suc}
 use lib.Dec.{eqb, leb}
 use lib.ListN.{length, take}
+use Rattle.places.specs.Takes.{long}
 use Rattle.places.specs.Pick.{pick}
+use Rattle.contents.specs.declared.FileAnswer.the-variants.{BadEntry, Block, Cut, Over, Range, Runs}
 use Rattle.contents.specs.declared.FileAnswer.{FileAnswer}
-use Rattle.contents.specs.Answers.{FileTest, a-block, enough, laid-out, an-end, good-runs, true-ranges, fileAnswer, isDone, left}
+use Rattle.contents.specs.Answers.{FileTest, fileAnswer, isDone, left}
 use Rattle.contents.specs.Contents.{editionOr, countOr, contentsSize, entryOr, rangeOr, hasRightEntry, contentsTests}
 use Rattle.bodies.specs.Bodies.{blockOf, hasGoodRuns}
 use Rattle.bodies.specs.Ranges.{isRange}
 
--- A test of entry or block i alone gives it as the lowest that fails, or, where it passes, the number behind it: as if there were i + 1 of them, and
--- those below it had passed.
-abbrev pub lowestAt : (i : ℕ) (test : Bool) → ℕ
-lowestAt i test = pick test (suc i) i
-
 -- Entry i has to be there and right in its edition: 10 with the entry where it is not.
 abbrev pub entryTest : (front : List ℕ) (i : ℕ) → FileTest
-entryTest front i = laid-out (lowestAt i (hasRightEntry front i)) (suc i)
+entryTest front i = (hasRightEntry front i, BadEntry i)
 
 -- The run indices of body i have to be in range: 13 with the block where one is not.
 abbrev pub runsTest : (front : List ℕ) (i : ℕ) (body : List ℕ) → FileTest
-runsTest front i body = good-runs (lowestAt i (hasGoodRuns (entryOr front i) body)) (suc i)
+runsTest front i body = (hasGoodRuns (entryOr front i) body, Runs i)
 
 -- In edition 2 the range that entry i says has to be the true one of its block; in edition 1 it says none.
 unfoldable pub hasTrueRange : (front : List ℕ) (i : ℕ) (block : List ℕ) → Bool
@@ -36,20 +33,20 @@ hasTrueRange front i block = pick (eqb (editionOr front) 2) (isRange (rangeOr fr
 
 -- Where it is not, 15 is given with the block.
 abbrev pub rangeTest : (front : List ℕ) (i : ℕ) (block : List ℕ) → FileTest
-rangeTest front i block = true-ranges (lowestAt i (hasTrueRange front i block)) (suc i)
+rangeTest front i block = (hasTrueRange front i block, Range i)
 
 -- The tests of body i are, in the order of Item 1, that of its entry, whether the body is as long as the entry says, and that of the run indices.
 abbrev pub bodyTests : (front : List ℕ) (i : ℕ) (body : List ℕ) → List FileTest
 bodyTests front i body =
     entryTest front i
-    ∷ enough (entryOr front i .length) (length body)
-    ∷ an-end (entryOr front i .length) (length body)
+    ∷ (leb (entryOr front i .length) (length body), Cut)
+    ∷ (leb (length body) (entryOr front i .length), Over)
     ∷ runsTest front i body
     ∷ []
 
 -- Laying block i down tests its output first,
 abbrev pub blockTests : (front : List ℕ) (i : ℕ) (body block : List ℕ) → List FileTest
-blockTests front i body block = a-block block ∷ bodyTests front i body
+blockTests front i body block = (long 1024 block, Block) ∷ bodyTests front i body
 
 -- and leaves this there.
 unfoldable pub blockLeaves : (front : List ℕ) (i : ℕ) (body block : List ℕ) → List ℕ

@@ -3,15 +3,16 @@
 -- Assumes nothing.
 use mathlib.Core.List.{List, [], _∷_}
 use Prim.Native.Nat.{ℕ}
+use lib.Dec.{leb}
 use lib.ListN.{length}
 use Rattle.places.specs.Pick.{pick}
 use Rattle.places.specs.Tab.{over}
 use Rattle.places.specs.Takes.{long}
 use Rattle.contents.specs.declared.Entry.{Entry}
 use Rattle.contents.specs.declared.FileAnswer.{FileAnswer}
-use Rattle.contents.specs.declared.FileAnswer.the-variants.{Done}
+use Rattle.contents.specs.declared.FileAnswer.the-variants.{Done, Block, Room}
 use Rattle.contents.specs.declared.Range.{Range}
-use Rattle.contents.specs.Answers.{FileTest, a-block, a-room, fileAnswer, isDone, left}
+use Rattle.contents.specs.Answers.{FileTest, fileAnswer, isDone, left}
 use Rattle.contents.specs.Contents.{noEntry, anyRange}
 use Rattle.bodies.specs.Ranges.{trueRange}
 use Rattle.candidates.specs.declared.Laid.{Laid}
@@ -24,7 +25,7 @@ entryFor values = pick (long 1024 values) (chosen values .entry) noEntry
 
 -- Writing the body of a block takes 1,024 numbers, and an output with room for the body.
 abbrev pub layTests : (values output : List ℕ) → List FileTest
-layTests values output = a-block values ∷ a-room (length (bodyFor values)) (length output) ∷ []
+layTests values output = (long 1024 values, Block) ∷ (leb (length (bodyFor values)) (length output), Room) ∷ []
 
 -- It gives the block's entry and its range, or the refusal,
 unfoldable pub laidOf : (values output : List ℕ) → Laid

@@ -2,12 +2,13 @@
 -- Assumes nothing.
 use mathlib.Core.List.{List, [], _∷_}
 use mathlib.Core.Logic.{_≢_}
-use mathlib.Core.Path.{_≡_, sym, ap, _∙_}
+use mathlib.Core.Path.{_≡_, refl, sym, ap, _∙_}
 use Prim.Native.Nat.{ℕ, _≤_, _<_}
 use native.Mathlib.Omega.{arith}
 use borrow.Author.Tests.{eq-eqb, ne-eqb}
+use lib.Dec.{eqb}
 use Rattle.contents.specs.declared.FileAnswer.the-variants.{Done, Edition, Foreign}
-use Rattle.contents.specs.Answers.{as-written, fileAnswer}
+use Rattle.contents.specs.Answers.{fileAnswer}
 use Rattle.contents.specs.Contents.{edition, count}
 use Rattle.contents.proofs.Answers.{passed, stopped, none-left, in-front-done, in-front-refused}
 use Rattle.contents.proofs.First.{first-le}
@@ -24,11 +25,11 @@ module _ (l : List ℕ) where
   not-read refused = in-front-refused (fileTests l) _ refused
 
   pub not-second : fileAnswer (fileTests l) ≡ Done → edition l ≢ 2 → fileAnswer (canonicalTests l) ≡ Edition
-  not-second done other = in-front-done (fileTests l) _ done ∙ stopped _ _ (ne-eqb (edition l) 2 other)
+  not-second done other = in-front-done (fileTests l) _ refl done ∙ stopped _ _ (ne-eqb (edition l) 2 other)
 
   module _ (done : fileAnswer (fileTests l) ≡ Done) (second : edition l ≡ 2) where
-    blocks-left : fileAnswer (canonicalTests l) ≡ fileAnswer (as-written (foreign l) (count l) ∷ [])
-    blocks-left = in-front-done (fileTests l) _ done ∙ passed _ _ (eq-eqb (edition l) 2 second)
+    blocks-left : fileAnswer (canonicalTests l) ≡ fileAnswer ((eqb (foreign l) (count l), Foreign (foreign l)) ∷ [])
+    blocks-left = in-front-done (fileTests l) _ refl done ∙ passed _ _ (eq-eqb (edition l) 2 second)
 
     pub is-foreign : (p : ℕ) → p ≡ foreign l → p < count l → fileAnswer (canonicalTests l) ≡ Foreign p
     is-foreign p e h = blocks-left ∙ stopped _ _ (ne-eqb (foreign l) (count l) (λ f. absurd (omega arith))) ∙ ap Foreign (sym e)

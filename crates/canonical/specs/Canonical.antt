@@ -6,8 +6,9 @@ use mathlib.Core.List.{List, [], _∷_, _++_}
 use Prim.Native.Nat.{ℕ}
 use lib.Dec.{eqb}
 use Rattle.places.specs.Pick.{both}
+use Rattle.contents.specs.declared.FileAnswer.the-variants.{Edition, Foreign}
 use Rattle.contents.specs.declared.Entry.{Entry}
-use Rattle.contents.specs.Answers.{FileTest, a-second-edition, as-written}
+use Rattle.contents.specs.Answers.{FileTest}
 use Rattle.contents.specs.Contents.{edition, count, entryOf}
 use Rattle.contents.specs.First.{firstBad}
 use Rattle.candidates.specs.Candidates.{chosen, bodyFor}
@@ -38,4 +39,4 @@ foreign l = firstBad (count l) (isOurs l)
 
 -- The tests are those of the reader, then that of the edition, and then that of every block.
 abbrev pub canonicalTests : (l : List ℕ) → List FileTest
-canonicalTests l = fileTests l ++ (a-second-edition (edition l) ∷ as-written (foreign l) (count l) ∷ [])
+canonicalTests l = fileTests l ++ ((eqb (edition l) 2, Edition) ∷ (eqb (foreign l) (count l), Foreign (foreign l)) ∷ [])

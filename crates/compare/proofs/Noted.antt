@@ -175,9 +175,9 @@ module _ (left right places : List ℕ) where
     -- Where all three are, they are 1,024 long,
     pub lengths-are : (length left ≡ 1024) × ((length right ≡ 1024) × (length places ≡ 1024))
     lengths-are =
-        let l = done-first _ _ done in
-        let r = done-first _ _ (l .1) in
-        let p = done-first _ _ (r .1) in
+        let l = done-first _ _ refl done in
+        let r = done-first _ _ refl (l .1) in
+        let p = done-first _ _ refl (r .1) in
         (eqb-true (length left) 1024 (l .0), (eqb-true (length right) 1024 (r .0), eqb-true (length places) 1024 (p .0)))
 
     -- the places that differ are counted and written,

@@ -6,11 +6,12 @@ use mathlib.Core.List.{List, [], _∷_, _++_, map}
 use Prim.Native.Nat.{ℕ, zero, suc, _+_, _*_, min}
 use lib.Dec.{eqb}
 use lib.ListN.{length, getD}
+use Rattle.places.specs.Takes.{long}
 use Rattle.places.specs.Pick.{pick}
 use Rattle.places.specs.Tab.{over}
 use Rattle.contents.specs.declared.FileAnswer.{FileAnswer}
-use Rattle.contents.specs.declared.FileAnswer.the-variants.{Done}
-use Rattle.contents.specs.Answers.{FileTest, a-block, fileAnswer, isDone, left as leaves}
+use Rattle.contents.specs.declared.FileAnswer.the-variants.{Done, Block}
+use Rattle.contents.specs.Answers.{FileTest, fileAnswer, isDone, left as leaves}
 use Rattle.contents.specs.Contents.{count}
 use Rattle.files.specs.Files.{blockIn, rowAt}
 use Rattle.compare.specs.declared.Change.{Change}
@@ -32,7 +33,7 @@ differing left right = failingFrom 0 1024 (isSame left right)
 
 -- Both blocks and the room for the places have to be 1,024 long: 2 where one is not.
 abbrev pub differingTests : (left right places : List ℕ) → List FileTest
-differingTests left right places = a-block left ∷ a-block right ∷ a-block places ∷ []
+differingTests left right places = (long 1024 left, Block) ∷ (long 1024 right, Block) ∷ (long 1024 places, Block) ∷ []
 
 -- The comparison of two blocks gives how many places differ, or the refusal,
 unfoldable pub comparedOf : (left right places : List ℕ) → Compared

@@ -2,41 +2,41 @@
 -- Assumes nothing.
 use mathlib.Core.Bool.{Bool, true, false}
 use mathlib.Core.List.{List, [], _∷_, _++_}
-use mathlib.Core.Logic.{_↔_}
-use mathlib.Core.Path.{_≡_, refl, sym, ap₂, _∙_}
+use mathlib.Core.Path.{_≡_, refl, sym, ap, _∙_}
 use Prim.Native.Nat.{ℕ, _≤_, _<_}
 use native.Mathlib.Omega.{arith}
 use lib.Dec.{eqb, leb}
 use lib.ListN.{length}
-use borrow.Author.Tests.{le-leb, leb-true, eq-eqb, eqb-true}
+use borrow.Author.Tests.{leb-true, eqb-true}
 use Rattle.places.specs.Pick.{both, either}
-use Rattle.places.proofs.Tests.{both-true}
+use Rattle.places.proofs.Tests.{both-true, false-true}
 use Rattle.contents.specs.declared.FileAnswer.the-variants.{Done}
-use Rattle.contents.specs.Answers.{FileTest, passes, fileAnswer}
+use Rattle.contents.specs.Answers.{FileTest, fileAnswer, isDone}
 use Rattle.contents.specs.Contents.{edition, count, contentsSize, entryOf, rangeOf, isLaidOut, isTakenIn, isOrdered, isRight, badEntry, bodyStart, contentsTests}
-use Rattle.contents.specs.First.{firstBad}
-use Rattle.contents.proofs.Answers.{passed, stopped, none-left, refusal-not-done, in-front-done}
+use Rattle.contents.proofs.Answers.{passed, stopped, none-left, refuses, refuses-first, in-front-done}
 use Rattle.contents.proofs.Checks.{Known, true-known, entries-there, entries-done}
 use Rattle.contents.proofs.First.{first-only, first-before}
 
 -- A call that is done has passed its first test, and is done with the others.
-pub done-first : (x : FileTest) (xs : List FileTest) → fileAnswer (x ∷ xs) ≡ Done → (passes x ≡ true) × (fileAnswer xs ≡ Done)
-done-first x xs e = go (passes x) refl
+pub done-first : (x : FileTest) (xs : List FileTest) → isDone (x .1) ≡ false → fileAnswer (x ∷ xs) ≡ Done → (x .0 ≡ true) × (fileAnswer xs ≡ Done)
+done-first x xs other e = go (x .0) refl
   where
-    go : (b : Bool) → passes x ≡ b → (passes x ≡ true) × (fileAnswer xs ≡ Done)
+    go : (b : Bool) → x .0 ≡ b → (x .0 ≡ true) × (fileAnswer xs ≡ Done)
     go true p = (p, sym (passed x xs p) ∙ e)
-    go false p = absurd (refusal-not-done x (sym (stopped x xs p) ∙ e))
+    go false p = absurd (false-true (sym other ∙ ap isDone (sym (stopped x xs p) ∙ e)))
 
 -- A call that is done is done with the tests in front and with those behind them, and the other way round.
-pub done-front : (xs ys : List FileTest) → fileAnswer (xs ++ ys) ≡ Done → (fileAnswer xs ≡ Done) × (fileAnswer ys ≡ Done)
-done-front [] ys e = (none-left, e)
-done-front (x ∷ xs) ys e =
-    let first = done-first x (xs ++ ys) e in
-    let rest = done-front xs ys (first .1) in
-    (passed x xs (first .0) ∙ rest .0, rest .1)
+pub done-front : (xs ys : List FileTest) → refuses xs ≡ true → fileAnswer (xs ++ ys) ≡ Done → (fileAnswer xs ≡ Done) × (fileAnswer ys ≡ Done)
+done-front [] ys r e = (none-left, e)
+done-front (x ∷ xs) ys r e = go (x .0) refl (done-front xs ys (refuses-first x xs r .1))
+  where
+    go : (b : Bool) → x .0 ≡ b → (fileAnswer (xs ++ ys) ≡ Done → (fileAnswer xs ≡ Done) × (fileAnswer ys ≡ Done))
+        → (fileAnswer (x ∷ xs) ≡ Done) × (fileAnswer ys ≡ Done)
+    go true p rest = let parts = rest (sym (passed x (xs ++ ys) p) ∙ e) in (passed x xs p ∙ parts .0, parts .1)
+    go false p rest = absurd (refuses-first x xs r .0 (sym (stopped x (xs ++ ys) p) ∙ e))
 
-pub done-both : (xs ys : List FileTest) → fileAnswer xs ≡ Done → fileAnswer ys ≡ Done → fileAnswer (xs ++ ys) ≡ Done
-done-both xs ys e f = in-front-done xs ys e ∙ f
+pub done-both : (xs ys : List FileTest) → refuses xs ≡ true → fileAnswer xs ≡ Done → fileAnswer ys ≡ Done → fileAnswer (xs ++ ys) ≡ Done
+done-both xs ys r e f = in-front-done xs ys r e ∙ f
 
 -- The contents in l are those of a file of `size` bytes.
 pub record Whole (l : List ℕ) (size : ℕ) : Type 0 where
@@ -74,12 +74,12 @@ module _ (l : List ℕ) (size : ℕ) where
 
   pub accepted : fileAnswer (contentsTests l size) ≡ Done → Whole l size
   accepted done =
-      let t0 = done-first _ _ done in
-      let t1 = done-first _ _ (t0 .1) in
-      let t2 = done-first _ _ (t1 .1) in
-      let t3 = done-first _ _ (t2 .1) in
-      let t4 = done-first _ _ (t3 .1) in
-      let t5 = done-first _ _ (t4 .1) in
+      let t0 = done-first _ _ refl done in
+      let t1 = done-first _ _ refl (t0 .1) in
+      let t2 = done-first _ _ refl (t1 .1) in
+      let t3 = done-first _ _ refl (t2 .1) in
+      let t4 = done-first _ _ refl (t3 .1) in
+      let t5 = done-first _ _ refl (t4 .1) in
       let e = both-true (either (eqb (edition l) 1) (eqb (edition l) 2)) (leb (count l) 256) (t1 .0) in
       let low : bodyStart l (count l) ≤ size = leb-true (bodyStart l (count l)) size (t4 .0) in
       let high : size ≤ bodyStart l (count l) = leb-true size (bodyStart l (count l)) (t5 .0) in

@@ -4,59 +4,59 @@
 use mathlib.Core.Bool.{Bool, true, false}
 use mathlib.Core.List.{List, [], _∷_, _++_}
 use mathlib.Core.Path.{_≡_, refl, sym, ap, _∙_}
-use Prim.Native.Nat.{ℕ}
 use native.Mathlib.Decide.{ℕ-discrete}
 use native.Mathlib.Omega.{arith}
 use borrow.Author.Tests.{eq-eqb, ne-eqb}
 use Rattle.places.specs.Answers.{unless}
 use Rattle.places.specs.Pick.{pick}
+use Rattle.places.proofs.Tests.{false-true}
 use Rattle.contents.specs.declared.FileAnswer.{FileAnswer}
 use Rattle.contents.specs.declared.FileAnswer.the-variants.{Done, Block, Cut, Edition, BadEntry, Over, Beyond, Runs, Room, Range, Foreign}
-use Rattle.contents.specs.Answers.{FileTest, a-block, enough, an-edition, laid-out, an-end, a-number, good-runs, true-ranges, a-second-edition, as-written, whole-blocks, a-room, passes, refusal, fileAnswer, numberOf, isDone, left}
+use Rattle.contents.specs.Answers.{FileTest, fileAnswer, numberOf, isDone, left}
 
 module _ (x : FileTest) (xs : List FileTest) where
-  pub passed : passes x ≡ true → fileAnswer (x ∷ xs) ≡ fileAnswer xs
+  pub passed : x .0 ≡ true → fileAnswer (x ∷ xs) ≡ fileAnswer xs
   unfolding fileAnswer
-  passed e = ap (λ b. unless b (refusal x) (fileAnswer xs)) e
+  passed e = ap (λ b. unless b (x .1) (fileAnswer xs)) e
 
-  pub stopped : passes x ≡ false → fileAnswer (x ∷ xs) ≡ refusal x
+  pub stopped : x .0 ≡ false → fileAnswer (x ∷ xs) ≡ x .1
   unfolding fileAnswer
-  stopped e = ap (λ b. unless b (refusal x) (fileAnswer xs)) e
+  stopped e = ap (λ b. unless b (x .1) (fileAnswer xs)) e
 
 pub none-left : fileAnswer [] ≡ Done
 unfolding fileAnswer
 none-left = refl
 
--- No refusal is Done.
-pub refusal-not-done : (x : FileTest) → refusal x ≡ Done → ⊥
-refusal-not-done (a-block output) e = let z : _≡_ {A = ℕ} 0 1 = cc in omega arith
-refusal-not-done (enough needed there) e = let z : _≡_ {A = ℕ} 0 1 = cc in omega arith
-refusal-not-done (an-edition edition count) e = let z : _≡_ {A = ℕ} 0 1 = cc in omega arith
-refusal-not-done (laid-out lowest count) e = let z : _≡_ {A = ℕ} 0 1 = cc in omega arith
-refusal-not-done (an-end end there) e = let z : _≡_ {A = ℕ} 0 1 = cc in omega arith
-refusal-not-done (a-number number count) e = let z : _≡_ {A = ℕ} 0 1 = cc in omega arith
-refusal-not-done (good-runs lowest count) e = let z : _≡_ {A = ℕ} 0 1 = cc in omega arith
-refusal-not-done (true-ranges lowest count) e = let z : _≡_ {A = ℕ} 0 1 = cc in omega arith
-refusal-not-done (a-second-edition edition) e = let z : _≡_ {A = ℕ} 0 1 = cc in omega arith
-refusal-not-done (as-written lowest count) e = let z : _≡_ {A = ℕ} 0 1 = cc in omega arith
-refusal-not-done (whole-blocks numbers) e = let z : _≡_ {A = ℕ} 0 1 = cc in omega arith
-refusal-not-done (a-room needed there) e = let z : _≡_ {A = ℕ} 0 1 = cc in omega arith
+-- No refusal of a list is Done. Of a list that is written out, this computes to true.
+abbrev pub refuses : List FileTest → Bool
+refuses [] = true
+refuses (x ∷ xs) = pick (isDone (x .1)) false (refuses xs)
+
+pub refuses-first : (x : FileTest) (xs : List FileTest) → refuses (x ∷ xs) ≡ true → (x .1 ≡ Done → ⊥) × (refuses xs ≡ true)
+refuses-first x xs r = (
+  λ e. false-true (sym (ap (λ a. pick (isDone a) false (refuses xs)) e) ∙ r),
+  go (isDone (x .1)) r,
+)
+  where
+    go : (b : Bool) → pick b false (refuses xs) ≡ true → refuses xs ≡ true
+    go true r = absurd (false-true r)
+    go false r = r
 
 -- Where the tests in front are done, those behind them decide.
-pub in-front-done : (xs ys : List FileTest) → fileAnswer xs ≡ Done → fileAnswer (xs ++ ys) ≡ fileAnswer ys
-in-front-done [] ys e = refl
-in-front-done (x ∷ xs) ys e = go (passes x) refl (in-front-done xs ys)
+pub in-front-done : (xs ys : List FileTest) → refuses xs ≡ true → fileAnswer xs ≡ Done → fileAnswer (xs ++ ys) ≡ fileAnswer ys
+in-front-done [] ys r e = refl
+in-front-done (x ∷ xs) ys r e = go (x .0) refl (in-front-done xs ys (refuses-first x xs r .1))
   where
-    go : (b : Bool) → passes x ≡ b → (fileAnswer xs ≡ Done → fileAnswer (xs ++ ys) ≡ fileAnswer ys) → fileAnswer (x ∷ (xs ++ ys)) ≡ fileAnswer ys
+    go : (b : Bool) → x .0 ≡ b → (fileAnswer xs ≡ Done → fileAnswer (xs ++ ys) ≡ fileAnswer ys) → fileAnswer (x ∷ (xs ++ ys)) ≡ fileAnswer ys
     go true p rest = passed x (xs ++ ys) p ∙ rest (sym (passed x xs p) ∙ e)
-    go false p rest = absurd (refusal-not-done x (sym (stopped x xs p) ∙ e))
+    go false p rest = absurd (refuses-first x xs r .0 (sym (stopped x xs p) ∙ e))
 
 -- Where they are not, their refusal is given.
 pub in-front-refused : (xs ys : List FileTest) → (fileAnswer xs ≡ Done → ⊥) → fileAnswer (xs ++ ys) ≡ fileAnswer xs
 in-front-refused [] ys n = absurd (n none-left)
-in-front-refused (x ∷ xs) ys n = go (passes x) refl (in-front-refused xs ys)
+in-front-refused (x ∷ xs) ys n = go (x .0) refl (in-front-refused xs ys)
   where
-    go : (b : Bool) → passes x ≡ b → ((fileAnswer xs ≡ Done → ⊥) → fileAnswer (xs ++ ys) ≡ fileAnswer xs)
+    go : (b : Bool) → x .0 ≡ b → ((fileAnswer xs ≡ Done → ⊥) → fileAnswer (xs ++ ys) ≡ fileAnswer xs)
         → fileAnswer (x ∷ (xs ++ ys)) ≡ fileAnswer (x ∷ xs)
     go true p rest = passed x (xs ++ ys) p ∙ rest (λ e. n (passed x xs p ∙ e)) ∙ sym (passed x xs p)
     go false p rest = stopped x (xs ++ ys) p ∙ sym (stopped x xs p)

@@ -12,7 +12,7 @@ use borrow.Author.Tests.{le-leb, lt-leb, eq-eqb, ne-eqb, eqb-true, eqb-false}
 use Rattle.places.specs.Pick.{both, either}
 use Rattle.places.proofs.Tests.{false-true}
 use Rattle.contents.specs.declared.FileAnswer.the-variants.{Done, Cut, Edition, BadEntry, Over}
-use Rattle.contents.specs.Answers.{enough, an-edition, an-end, fileAnswer}
+use Rattle.contents.specs.Answers.{fileAnswer}
 use Rattle.contents.specs.Contents.{edition, count, contentsSize, badEntry, bodyStart, entriesTests, contentsTests}
 use Rattle.contents.proofs.Answers.{passed, stopped, none-left}
 
@@ -52,7 +52,10 @@ module _ (l : List ℕ) (size : ℕ) where
 
   module _ (h : 4 ≤ length l) where
     head-there : fileAnswer (contentsTests l size)
-        ≡ fileAnswer (an-edition (edition l) (count l) ∷ enough (contentsSize (edition l) (count l)) (length l) ∷ entriesTests l size)
+        ≡ fileAnswer
+        ((both (isEdition (edition l)) (leb (count l) 256), Edition)
+        ∷ (leb (contentsSize (edition l) (count l)) (length l), Cut)
+        ∷ entriesTests l size)
     head-there = passed _ _ (le-leb 4 (length l) h)
 
     pub other-edition : (edition l ≡ 1 → ⊥) → (edition l ≡ 2 → ⊥) → fileAnswer (contentsTests l size) ≡ Edition
@@ -64,7 +67,7 @@ module _ (l : List ℕ) (size : ℕ) where
         ∙ stopped _ _ (ap (both (isEdition (edition l))) (lt-leb (count l) 256 m) ∙ both-second-false (isEdition (edition l)))
 
     module _ (e : Known (edition l)) (few : count l ≤ 256) where
-      edition-right : fileAnswer (contentsTests l size) ≡ fileAnswer (enough (contentsSize (edition l) (count l)) (length l) ∷ entriesTests l size)
+      edition-right : fileAnswer (contentsTests l size) ≡ fileAnswer ((leb (contentsSize (edition l) (count l)) (length l), Cut) ∷ entriesTests l size)
       edition-right = head-there ∙ passed _ _ (ap₂ both (known-true (edition l) e) (le-leb (count l) 256 few))
 
       pub short-entries : length l < contentsSize (edition l) (count l) → fileAnswer (contentsTests l size) ≡ Cut
@@ -78,14 +81,14 @@ module _ (l : List ℕ) (size : ℕ) where
 
   module _ (good : badEntry l ≡ count l) where
     entries-good : fileAnswer (entriesTests l size)
-        ≡ fileAnswer (enough (bodyStart l (count l)) size ∷ an-end (bodyStart l (count l)) size ∷ [])
+        ≡ fileAnswer ((leb (bodyStart l (count l)) size, Cut) ∷ (leb size (bodyStart l (count l)), Over) ∷ [])
     entries-good = passed _ _ (eq-eqb (badEntry l) (count l) good)
 
     pub short-bodies : size < bodyStart l (count l) → fileAnswer (entriesTests l size) ≡ Cut
     short-bodies h = entries-good ∙ stopped _ _ (lt-leb (bodyStart l (count l)) size h)
 
     module _ (h : bodyStart l (count l) ≤ size) where
-      bodies-there : fileAnswer (entriesTests l size) ≡ fileAnswer (an-end (bodyStart l (count l)) size ∷ [])
+      bodies-there : fileAnswer (entriesTests l size) ≡ fileAnswer ((leb size (bodyStart l (count l)), Over) ∷ [])
       bodies-there = entries-good ∙ passed _ _ (le-leb (bodyStart l (count l)) size h)
 
       pub left-over : bodyStart l (count l) < size → fileAnswer (entriesTests l size) ≡ Over

@@ -10,13 +10,14 @@ use Prim.Native.Nat.{ℕ, zero, suc, _+_, _*_, _≤_, _<_}
 use native.Mathlib.Decide.{decLe}
 use native.Mathlib.Numerals.{add-one}
 use native.Mathlib.Omega.{arith}
-use lib.Dec.{eqb}
-use lib.ListN.{length, getD, take, length-take}
+use lib.Dec.{eqb, leb}
+use lib.ListN.{length, take, length-take}
 use lib.Seq.{getD-take}
 use borrow.Author.Tests.{eqb-true}
 use Rattle.places.specs.Pick.{pick, both}
 use Rattle.little.specs.Little.{little}
-use Rattle.contents.specs.Answers.{laid-out, enough, an-end, fileAnswer}
+use Rattle.contents.specs.declared.FileAnswer.the-variants.{BadEntry, Cut, Over}
+use Rattle.contents.specs.Answers.{fileAnswer}
 use Rattle.contents.specs.Contents.{edition, count, contentsSize, entryAt, entryOf, entryOr, rangeAt, anyRange, rangeOf, rangeOr, isLaidOut, isTakenIn, isOrdered, isRight, hasRightEntry, badEntry, bodiesSize, bodyStart, entriesTests, contentsTests}
 use Rattle.contents.specs.First.{firstBad}
 use Rattle.contents.proofs.Checks.{Known, known-or-not, short-head, other-edition, many-blocks, short-entries, entries-there}
@@ -98,8 +99,12 @@ module _ (l : List ℕ) (k : ℕ) (four : 4 ≤ k) (all : count l ≤ 256 → co
 
     entries-front : (size : ℕ) → fileAnswer (entriesTests (take k l) size) ≡ fileAnswer (entriesTests l size)
     entries-front size =
-        ap₂ (λ b s. fileAnswer (laid-out b (count (take k l)) ∷ enough s size ∷ an-end s size ∷ [])) bad-front start-front
-        ∙ ap (λ c. fileAnswer (laid-out (badEntry l) c ∷ enough (bodyStart l (count l)) size ∷ an-end (bodyStart l (count l)) size ∷ [])) count-front
+        ap₂ (λ b s. fileAnswer ((eqb b (count (take k l)), BadEntry b) ∷ (leb s size, Cut) ∷ (leb size s, Over) ∷ [])) bad-front start-front
+        ∙ ap (λ c. fileAnswer
+        ((eqb (badEntry l) c, BadEntry (badEntry l))
+        ∷ (leb (bodyStart l (count l)) size, Cut)
+        ∷ (leb size (bodyStart l (count l)), Over)
+        ∷ [])) count-front
 
   contents-size : contentsSize (edition (take k l)) (count (take k l)) ≡ contentsSize (edition l) (count l)
   contents-size = ap₂ contentsSize edition-front count-front

@@ -8,12 +8,13 @@ use mathlib.Core.List.{List, [], _∷_}
 use Prim.Native.Nat.{ℕ, zero, suc, _+_, _*_, _%_}
 use lib.Dec.{eqb, leb, ltb}
 use lib.ListN.{length, getD}
-use Rattle.places.specs.Pick.{pick, both}
+use Rattle.places.specs.Pick.{pick, both, either}
 use Rattle.places.specs.Sizes.{largestU64}
 use Rattle.little.specs.Little.{little, littleOr}
+use Rattle.contents.specs.declared.FileAnswer.the-variants.{BadEntry, Cut, Edition, Over}
 use Rattle.contents.specs.declared.Entry.{Entry}
 use Rattle.contents.specs.declared.Range.{Range}
-use Rattle.contents.specs.Answers.{FileTest, enough, an-edition, laid-out, an-end}
+use Rattle.contents.specs.Answers.{FileTest}
 use Rattle.contents.specs.First.{firstBad}
 
 -- The edition is the first number of two bytes,
@@ -110,17 +111,17 @@ bodyStart l i = contentsSize (edition l) (count l) + bodiesSize l i
 -- These are the tests of the entries, for a file of `size` bytes of which l is the front.
 abbrev pub entriesTests : (l : List ℕ) (size : ℕ) → List FileTest
 entriesTests l size =
-    laid-out (badEntry l) (count l)
-    ∷ enough (bodyStart l (count l)) size
-    ∷ an-end (bodyStart l (count l)) size
+    (eqb (badEntry l) (count l), BadEntry (badEntry l))
+    ∷ (leb (bodyStart l (count l)) size, Cut)
+    ∷ (leb size (bodyStart l (count l)), Over)
     ∷ []
 
 -- These are the tests of the contents: of the edition and the count, whether the entries are there, and then of the entries.
 abbrev pub contentsTests : (l : List ℕ) (size : ℕ) → List FileTest
 contentsTests l size =
-    enough 4 (length l)
-    ∷ an-edition (edition l) (count l)
-    ∷ enough (contentsSize (edition l) (count l)) (length l)
+    (leb 4 (length l), Cut)
+    ∷ (both (either (eqb (edition l) 1) (eqb (edition l) 2)) (leb (count l) 256), Edition)
+    ∷ (leb (contentsSize (edition l) (count l)) (length l), Cut)
     ∷ entriesTests l size
 
 -- Where an entry is not there, this stands for it. It is of no kind, so it is not as laid out.

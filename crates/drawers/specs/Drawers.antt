@@ -1,12 +1,11 @@
 -- A drawer of blocks (document 02, Item 7): what the calls on m blocks of one width answer, and what each leaves in the buffer lent to it.
 -- Assumes nothing.
-use mathlib.Core.Bool.{Bool}
 use mathlib.Core.List.{List, [], _∷_}
 use Prim.Native.Nat.{ℕ, _*_}
 use lib.Dec.{leb}
 use Rattle.places.specs.declared.Answer.{Answer}
 use Rattle.places.specs.declared.Answer.the-variants.{Done, Width, Block, Packed}
-use Rattle.places.specs.Answers.{firstRefusal, left}
+use Rattle.places.specs.Answers.{Test, firstRefusal, left}
 use Rattle.places.specs.Parts.{cut, joined}
 use Rattle.places.specs.Pick.{both}
 use Rattle.places.specs.Sizes.{lanes}
@@ -14,30 +13,17 @@ use Rattle.places.specs.Takes.{long}
 use Rattle.packing.specs.Packed.{unpackOf}
 use Rattle.deltas.specs.Deltas.{forPackOf}
 
--- These are the things that a call on a drawer takes.
-pub data Drawn : Type 0 where
-  -- It takes a width w, at element size t;
-  a-width : (t w : ℕ) → Drawn
-  -- m blocks of values;
-  blocks : (m : ℕ) (values : List ℕ) → Drawn
-  -- and m packed blocks, at that size and width.
-  packed-blocks : (t w m : ℕ) (words : List ℕ) → Drawn
+-- Both calls make these tests, in the order of the numbers: the width, the blocks of values, of which there are at most 256, and the packed blocks.
+abbrev pub drawerTests : (t w m : ℕ) (values packed : List ℕ) → List (Test Answer)
+drawerTests t w m values packed =
+    (leb w t, Width)
+    ∷ (both (leb m 256) (long (m * 1024) values), Block)
+    ∷ (long (m * (lanes t * w)) packed, Packed)
+    ∷ []
 
--- This is the test that is made of each of them. The test of the blocks says too that there are at most 256.
-abbrev pub passes : Drawn → Bool
-passes (a-width t w) = leb w t
-passes (blocks m values) = both (leb m 256) (long (m * 1024) values)
-passes (packed-blocks t w m words) = long (m * (lanes t * w)) words
-
--- This is the refusal where the test fails.
-abbrev pub refusal : Drawn → Answer
-refusal (a-width t w) = Width
-refusal (blocks m values) = Block
-refusal (packed-blocks t w m words) = Packed
-
--- Both calls answer with the first refusal, in the order of the numbers, and where every test passes they are done.
+-- They answer with the first refusal, and where every test passes they are done.
 unfoldable pub drawerAnswer : (t w m : ℕ) (values packed : List ℕ) → Answer
-drawerAnswer t w m values packed = firstRefusal passes refusal Done (a-width t w ∷ blocks m values ∷ packed-blocks t w m packed ∷ [])
+drawerAnswer t w m values packed = firstRefusal Done (drawerTests t w m values packed)
 
 -- The list x is cut into parts of n entries. These are the first m of them, each turned into another list by the rule g, one after another.
 unfoldable pub eachPart : (n : ℕ) (g : List ℕ → List ℕ) (m : ℕ) (x : List ℕ) → List ℕ

@@ -4,18 +4,19 @@ use mathlib.Core.Bool.{Bool, true, false}
 use mathlib.Core.List.{List, [], _∷_, _++_}
 use mathlib.Core.Path.{_≡_, refl, sym, ap, _∙_}
 use Prim.Native.Nat.{ℕ, _/_, _%_, _≤_, _<_}
-use native.Mathlib.Decide.{decLe, decLt}
+use native.Mathlib.Decide.{decLt}
 use native.Mathlib.Omega.{arith}
+use lib.Dec.{ltb}
 use lib.ListN.{length, getD, replicate}
 use borrow.Author.Tests.{lt-ltb, le-ltb, eq-eqb, ne-eqb}
 use Rattle.places.specs.Answers.{unless}
 use Rattle.places.specs.Pick.{pick}
 use Rattle.contents.specs.declared.FileAnswer.{FileAnswer}
 use Rattle.contents.specs.declared.FileAnswer.the-variants.{Done, Block, Beyond, Runs}
-use Rattle.contents.specs.Answers.{FileTest, a-block, a-number, passes, refusal, fileAnswer, numberOf, isDone, left}
+use Rattle.contents.specs.Answers.{FileTest, fileAnswer, numberOf, isDone, left}
 use Rattle.contents.specs.Contents.{count, entryOf, entryOr, isLaidOut, contentsTests}
-use Rattle.contents.proofs.Accepted.{whole-laid}
-use Rattle.contents.proofs.Answers.{passed, stopped, none-left, refusal-not-done, in-front-done, in-front-refused, number-done}
+use Rattle.contents.proofs.Accepted.{whole-laid, done-front}
+use Rattle.contents.proofs.Answers.{passed, stopped, none-left, in-front-done, in-front-refused}
 use Rattle.files.specs.declared.Row.the-variants.{Uncounted, Refused}
 use Rattle.files.specs.Files.{rowCount, rowAt, blockIn, badRange, fileTests, blockTests, blockLeaves, rowTests}
 use Rattle.files.specs.Rows.{given, rowOf}
@@ -28,46 +29,35 @@ use Rattle.files.proofs.Ranges.{file-refused, file-ranges, ranges-done}
 last-same : (xs : List FileTest) (x y : FileTest) → fileAnswer (x ∷ []) ≡ fileAnswer (y ∷ []) → fileAnswer (xs ++ (x ∷ [])) ≡ fileAnswer (xs ++ (y ∷ []))
 unfolding fileAnswer
 last-same [] x y e = e
-last-same (z ∷ xs) x y e = ap (unless (passes z) (refusal z)) (last-same xs x y e)
+last-same (z ∷ xs) x y e = ap (unless (z .0) (z .1)) (last-same xs x y e)
 
--- Where all tests are passed, those in front are, and those behind.
-front-done : (xs ys : List FileTest) → fileAnswer (xs ++ ys) ≡ Done → fileAnswer xs ≡ Done
-front-done xs ys e =
-    elim (decLe (numberOf (fileAnswer xs)) 0) [
-      | yes z ↦ number-done (fileAnswer xs) (omega arith)
-      | no n ↦ sym (in-front-refused xs ys (λ d. n (omega (arith, ap numberOf d)))) ∙ e
-    ]
-
-rest-done : (xs ys : List FileTest) → fileAnswer (xs ++ ys) ≡ Done → fileAnswer ys ≡ Done
-rest-done xs ys e = sym (in-front-done xs ys (front-done xs ys e)) ∙ e
-
-number-passed : (n m : ℕ) → fileAnswer (a-number n m ∷ []) ≡ Done → n < m
+number-passed : (n m : ℕ) → fileAnswer ((ltb n m, Beyond) ∷ []) ≡ Done → n < m
 number-passed n m e =
     elim (decLt n m) [
       | yes h ↦ h
-      | no h ↦ absurd (refusal-not-done (a-number n m) (sym (stopped _ [] (le-ltb n m (omega arith))) ∙ e))
+      | no h ↦ absurd (omega (arith, ap numberOf (sym (stopped _ [] (le-ltb n m (omega arith))) ∙ e)))
     ]
 
 -- One block out tests its output first, then makes the tests of the file, and tests the number of the block last.
-module _ (tests : List FileTest) (b n : ℕ) (output : List ℕ) where
-  pub bad-output : (length output ≡ 1024 → ⊥) → fileAnswer (a-block output ∷ (tests ++ (a-number b n ∷ []))) ≡ Block
+module _ (l : List ℕ) (b : ℕ) (output : List ℕ) where
+  pub bad-output : (length output ≡ 1024 → ⊥) → fileAnswer (blockTests l b output) ≡ Block
   bad-output h = stopped _ _ (ne-eqb (length output) 1024 h)
 
   module _ (e : length output ≡ 1024) where
-    pub block-refused : (numberOf (fileAnswer tests) ≡ 0 → ⊥) → fileAnswer (a-block output ∷ (tests ++ (a-number b n ∷ []))) ≡ fileAnswer tests
+    pub block-refused : (numberOf (fileAnswer (fileTests l)) ≡ 0 → ⊥) → fileAnswer (blockTests l b output) ≡ fileAnswer (fileTests l)
     block-refused refused =
         passed _ _ (eq-eqb (length output) 1024 e)
-        ∙ in-front-refused tests (a-number b n ∷ []) (λ d. refused (ap numberOf d))
+        ∙ in-front-refused (fileTests l) _ (λ d. refused (ap numberOf d))
 
-    module _ (done : fileAnswer tests ≡ Done) where
-      number-left : fileAnswer (a-block output ∷ (tests ++ (a-number b n ∷ []))) ≡ fileAnswer (a-number b n ∷ [])
-      number-left = passed _ _ (eq-eqb (length output) 1024 e) ∙ in-front-done tests (a-number b n ∷ []) done
+    module _ (done : fileAnswer (fileTests l) ≡ Done) where
+      number-left : fileAnswer (blockTests l b output) ≡ fileAnswer ((ltb b (count l), Beyond) ∷ [])
+      number-left = passed _ _ (eq-eqb (length output) 1024 e) ∙ in-front-done (fileTests l) _ refl done
 
-      pub block-beyond : n ≤ b → fileAnswer (a-block output ∷ (tests ++ (a-number b n ∷ []))) ≡ Beyond
-      block-beyond h = number-left ∙ stopped _ _ (le-ltb b n h)
+      pub block-beyond : count l ≤ b → fileAnswer (blockTests l b output) ≡ Beyond
+      block-beyond h = number-left ∙ stopped _ _ (le-ltb b (count l) h)
 
-      pub block-done : b < n → fileAnswer (a-block output ∷ (tests ++ (a-number b n ∷ []))) ≡ Done
-      block-done h = number-left ∙ passed _ _ (lt-ltb b n h) ∙ none-left
+      pub block-done : b < count l → fileAnswer (blockTests l b output) ≡ Done
+      block-done h = number-left ∙ passed _ _ (lt-ltb b (count l) h) ∙ none-left
 
 -- What a row of a block that is laid down gives, by whether it was laid down.
 module _ (a : FileAnswer) (b : ℕ) where
@@ -91,11 +81,11 @@ module _ (l : List ℕ) where
       block-decides = go (goodIn l b) refl
         where
           go : (t : Bool) → goodIn l b ≡ t → fileAnswer (blockTests l b output) ≡ pick t Done (Runs b)
-          go true g = block-done (fileTests l) b (count l) output e (file-done (λ _. g)) h
+          go true g = block-done l b output e (file-done (λ _. g)) h
           go false g =
               let runs = asked-bad l right b (count l) (sym others) (omega arith) h g in
               let bad : fileAnswer (fileTests l) ≡ Runs b = file-refused l (λ z. thirteen (sym (ap numberOf runs) ∙ z)) ∙ runs in
-              block-refused (fileTests l) b (count l) output e (λ z. thirteen (sym (ap numberOf bad) ∙ z)) ∙ bad
+              block-refused l b output e (λ z. thirteen (sym (ap numberOf bad) ∙ z)) ∙ bad
             where
               thirteen : _≡_ {A = ℕ} 13 0 → ⊥
               thirteen z = omega arith
@@ -111,7 +101,7 @@ module _ (l : List ℕ) where
     unfolding rowOf
     row-is a e = ap (λ a. pick (isDone a) (given (entryOf l (p / 1024)) (p % 1024) (rowAt l p)) (Refused a)) e
 
-    same-number : fileAnswer (a-number p (rowCount l) ∷ []) ≡ fileAnswer (a-number (p / 1024) (count l) ∷ [])
+    same-number : fileAnswer ((ltb p (rowCount l), Beyond) ∷ []) ≡ fileAnswer ((ltb (p / 1024) (count l), Beyond) ∷ [])
     same-number =
         elim (decLt (p / 1024) (count l)) [
           | yes h ↦ passed _ _ (lt-ltb p (rowCount l) (omega arith)) ∙ sym (passed _ _ (lt-ltb (p / 1024) (count l) h))
@@ -121,7 +111,7 @@ module _ (l : List ℕ) where
     -- The lookup of row p is answered as one block out of block p / 1,024 is.
     pub row-as-block : (output : List ℕ) → length output ≡ 1024 → fileAnswer (rowTests l p) ≡ fileAnswer (blockTests l (p / 1024) output)
     row-as-block output e =
-        last-same (fileTests l) (a-number p (rowCount l)) (a-number (p / 1024) (count l)) same-number
+        last-same (fileTests l) ((ltb p (rowCount l), Beyond)) ((ltb (p / 1024) (count l), Beyond)) same-number
         ∙ sym (passed _ _ (eq-eqb (length output) 1024 e))
 
     -- Where the contents are right, every other block is good and every range the true one, the row's block decides.
@@ -145,10 +135,10 @@ module _ (l : List ℕ) where
     -- Where the lookup is done the contents are right and the row's block is there, so its entry is read, and is as laid out.
     module _ (e : fileAnswer (rowTests l p) ≡ Done) where
       right : fileAnswer (contentsTests l (length l)) ≡ Done
-      right = front-done (contentsTests l (length l)) _ (front-done (fileTests l) (a-number p (rowCount l) ∷ []) e)
+      right = done-front (contentsTests l (length l)) _ refl (done-front (fileTests l) ((ltb p (rowCount l), Beyond) ∷ []) refl e .0) .0
 
       there : p / 1024 < count l
-      there = let h = number-passed p (rowCount l) (rest-done (fileTests l) (a-number p (rowCount l) ∷ []) e) in omega arith
+      there = let h = number-passed p (rowCount l) (done-front (fileTests l) ((ltb p (rowCount l), Beyond) ∷ []) refl e .1) in omega arith
 
       pub row-entry : entryOr l (p / 1024) ≡ entryOf l (p / 1024)
       row-entry = entry-read l right (p / 1024) there

@@ -3,14 +3,14 @@
 use mathlib.Core.Bool.{Bool, true, false}
 use mathlib.Core.List.{List, [], _∷_}
 use mathlib.Core.Path.{_≡_, refl, sym, ap, ap₂, _∙_}
-use Prim.Native.Nat.{ℕ, suc, _+_, _-_, _≤_, _<_}
+use Prim.Native.Nat.{ℕ, _+_, _-_, _<_}
 use native.Mathlib.Omega.{arith}
 use lib.ListN.{length, take, drop, length-take, length-drop}
 use lib.Dec.{eqb}
 use borrow.Author.Tests.{le-leb, eq-eqb}
 use Rattle.places.specs.Pick.{pick}
 use Rattle.contents.specs.declared.FileAnswer.the-variants.{Done, Runs}
-use Rattle.contents.specs.Answers.{good-runs, fileAnswer, isDone, left}
+use Rattle.contents.specs.Answers.{fileAnswer, isDone, left}
 use Rattle.contents.specs.Contents.{count, entryOf, bodyStart, contentsTests}
 use Rattle.contents.proofs.Answers.{passed, stopped, none-left}
 use Rattle.contents.proofs.First.{first-only}
@@ -23,7 +23,7 @@ abbrev pub goodIn : (l : List ℕ) (i : ℕ) → Bool
 goodIn l i = hasGoodRuns (entryOf l i) (bodyOf l i)
 
 -- The test of one run block, by what it says.
-pub runs-tested : (b : Bool) → fileAnswer (good-runs (pick b 1 0) 1 ∷ []) ≡ pick b Done (Runs 0)
+pub runs-tested : (b : Bool) → fileAnswer ((b, Runs 0) ∷ []) ≡ pick b Done (Runs 0)
 runs-tested true = passed _ _ refl ∙ none-left
 runs-tested false = stopped _ _ refl
 
@@ -46,7 +46,7 @@ module _ (l : List ℕ) (done : fileAnswer (contentsTests l (length l)) ≡ Done
     -- of the tests of a body only that of its run indices is left
     pub body-tested : fileAnswer (bodyTests (entryOf l i) (bodyOf l i)) ≡ pick (goodIn l i) Done (Runs 0)
     body-tested =
-        passed _ _ (ap (λ b. eqb (pick b 1 0) 1) (body-laid l done i h))
+        passed _ _ (body-laid l done i h)
         ∙ passed _ _ (le-leb (entryOf l i .length) (length (bodyOf l i)) (omega (arith, body-long)))
         ∙ passed _ _ (le-leb (length (bodyOf l i)) (entryOf l i .length) (omega (arith, body-long)))
         ∙ runs-tested (goodIn l i)
@@ -73,7 +73,7 @@ module _ (l : List ℕ) where
       ap₂ (λ n s. take n (drop s l)) (m ∙ f) e
 
   -- Where every block is good, the test of the run indices is passed.
-  pub no-bad-runs : ((k : ℕ) → k < count l → goodIn l k ≡ true) → fileAnswer (good-runs (badRuns l) (count l) ∷ []) ≡ Done
+  pub no-bad-runs : ((k : ℕ) → k < count l → goodIn l k ≡ true) → fileAnswer ((eqb (badRuns l) (count l), Runs (badRuns l)) ∷ []) ≡ Done
   unfolding badRuns
   no-bad-runs all =
       let found : count l ≡ badRuns l = first-only (count l) (count l) (goodIn l) (omega arith) all (λ h. absurd (omega arith)) in

@@ -15,7 +15,7 @@ use Rattle.places.specs.Pick.{pick}
 use Rattle.places.proofs.Tests.{false-true}
 use Rattle.contents.specs.declared.FileAnswer.{FileAnswer}
 use Rattle.contents.specs.declared.FileAnswer.the-variants.{Done, Runs, Range}
-use Rattle.contents.specs.Answers.{good-runs, true-ranges, fileAnswer, numberOf, left}
+use Rattle.contents.specs.Answers.{fileAnswer, numberOf, left}
 use Rattle.contents.specs.Contents.{edition, count, entryOf, entryOr, rangeOf, contentsTests}
 use Rattle.contents.specs.First.{firstBad}
 use Rattle.contents.proofs.Accepted.{whole-taken}
@@ -177,7 +177,7 @@ module _ (l front : List ℕ) (held : Front l front) (which : ℕ → Bool) wher
 
     -- what the tests of all run indices, and then of all ranges, say
     abbrev told : FileAnswer
-    told = fileAnswer (good-runs (firstBad (count l) good) (count l) ∷ true-ranges (firstBad (count l) ranged) (count l) ∷ [])
+    told = fileAnswer ((eqb (firstBad (count l) good) (count l), Runs (firstBad (count l) good)) ∷ (eqb (firstBad (count l) ranged) (count l), Range (firstBad (count l) ranged)) ∷ [])
 
     all-good : ((i : ℕ) → i < count l → good i ≡ true) → firstBad (count l) good ≡ count l
     all-good goods = sym (first-only (count l) (count l) good (omega arith) goods (λ b. absurd (omega arith)))
@@ -218,7 +218,7 @@ module _ (l front : List ℕ) (held : Front l front) where
       all-chosen front (length l) (bodyOf l) (count l)
       ∙ elim (ℕ-discrete (numberOf (fileAnswer (contentsTests l (length l)))) 0) [
         | yes z ↦ let done = number-done (fileAnswer (contentsTests l (length l))) z in
-            chosen-bodies l front held (λ _. true) done ∙ sym (in-front-done (contentsTests l (length l)) _ done)
+            chosen-bodies l front held (λ _. true) done ∙ sym (in-front-done (contentsTests l (length l)) _ refl done)
         | no n ↦ let refused : fileAnswer (contentsTests l (length l)) ≡ Done → ⊥ = λ d. n (ap numberOf d) in
             chosen-refused l front held (λ _. true) refused (count l) ∙ sym (in-front-refused (contentsTests l (length l)) _ refused)
       ]

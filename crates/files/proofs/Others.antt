@@ -12,7 +12,7 @@ use borrow.Author.Tests.{ne-eqb}
 use Rattle.places.specs.Pick.{either}
 use Rattle.places.proofs.Tests.{false-true}
 use Rattle.contents.specs.declared.FileAnswer.the-variants.{Done, Runs}
-use Rattle.contents.specs.Answers.{good-runs, fileAnswer}
+use Rattle.contents.specs.Answers.{fileAnswer}
 use Rattle.contents.specs.Contents.{count, contentsTests}
 use Rattle.contents.specs.First.{firstBad}
 use Rattle.contents.proofs.Answers.{stopped, in-front-done}
@@ -72,7 +72,7 @@ module _ (l : List ℕ) (right : fileAnswer (contentsTests l (length l)) ≡ Don
   -- behind right contents the lowest bad block decides
   runs-at : (p : ℕ) → p ≡ badRuns l → p < count l → fileAnswer (runsTests l) ≡ Runs p
   runs-at p found h =
-      in-front-done (contentsTests l (length l)) (good-runs (badRuns l) (count l) ∷ []) right
+      in-front-done (contentsTests l (length l)) ((eqb (badRuns l) (count l), Runs (badRuns l)) ∷ []) refl right
       ∙ stopped _ _ (ne-eqb (badRuns l) (count l) (λ e. omega arith))
       ∙ ap Runs (sym found)
 
@@ -91,5 +91,5 @@ module _ (l : List ℕ) (right : fileAnswer (contentsTests l (length l)) ≡ Don
   pub none-bad : (b : ℕ) → badBut l b ≡ count l → (b < count l → goodIn l b ≡ true) → fileAnswer (runsTests l) ≡ Done
   none-bad b none good =
       let found : firstBad (count l) (goodIn l) ≡ count l = sym (first-others (count l) b (goodIn l) (λ h. good (omega arith))) ∙ none in
-      in-front-done (contentsTests l (length l)) (good-runs (badRuns l) (count l) ∷ []) right
+      in-front-done (contentsTests l (length l)) ((eqb (badRuns l) (count l), Runs (badRuns l)) ∷ []) refl right
       ∙ no-bad-runs l (λ k h. first-before (count l) (goodIn l) k (omega arith))

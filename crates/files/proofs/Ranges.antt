@@ -3,15 +3,16 @@
 -- Assumes nothing.
 use mathlib.Core.Bool.{true}
 use mathlib.Core.List.{List, [], _∷_}
-use mathlib.Core.Path.{_≡_, sym, ap, _∙_}
+use mathlib.Core.Path.{_≡_, refl, sym, ap, _∙_}
 use Prim.Native.Nat.{ℕ, _<_}
 use native.Mathlib.Omega.{arith}
+use lib.Dec.{eqb}
 use lib.ListN.{length, drop}
 use borrow.Author.Tests.{eq-eqb, ne-eqb, eqb-true}
 use Rattle.places.specs.Numbers.{Elements}
 use Rattle.places.specs.Pick.{pick}
-use Rattle.contents.specs.declared.FileAnswer.the-variants.{Done, Range}
-use Rattle.contents.specs.Answers.{good-runs, true-ranges, fileAnswer, numberOf}
+use Rattle.contents.specs.declared.FileAnswer.the-variants.{Done, Range, Runs}
+use Rattle.contents.specs.Answers.{fileAnswer, numberOf}
 use Rattle.contents.specs.Contents.{edition, count, editionOr, entryOf, rangeOf, bodyStart, contentsTests}
 use Rattle.contents.proofs.Accepted.{done-first, done-front}
 use Rattle.contents.proofs.Answers.{passed, stopped, none-left, in-front-done, in-front-refused}
@@ -27,36 +28,36 @@ use Rattle.files.proofs.Files.{goodIn}
 module _ (l : List ℕ) where
   -- contents that are right are right in front of whatever is tested behind them
   pub contents-right : fileAnswer (runsTests l) ≡ Done → fileAnswer (contentsTests l (length l)) ≡ Done
-  contents-right done = done-front (contentsTests l (length l)) (good-runs (badRuns l) (count l) ∷ []) done .0
+  contents-right done = done-front (contentsTests l (length l)) ((eqb (badRuns l) (count l), Runs (badRuns l)) ∷ []) refl done .0
 
   -- Where the tests up to the run indices are passed, every block has its run indices in range.
   pub runs-good : fileAnswer (runsTests l) ≡ Done → (i : ℕ) → i < count l → goodIn l i ≡ true
   unfolding badRuns
   runs-good done i h =
-      let last = done-front (contentsTests l (length l)) (good-runs (badRuns l) (count l) ∷ []) done .1 in
-      let all : badRuns l ≡ count l = eqb-true (badRuns l) (count l) (done-first _ _ last .0) in
+      let last = done-front (contentsTests l (length l)) ((eqb (badRuns l) (count l), Runs (badRuns l)) ∷ []) refl done .1 in
+      let all : badRuns l ≡ count l = eqb-true (badRuns l) (count l) (done-first _ _ refl last .0) in
       first-before (count l) (goodIn l) i (omega arith)
 
   -- The tests of a file are those up to the run indices, and that of the ranges.
   pub file-runs : fileAnswer (fileTests l) ≡ Done → fileAnswer (runsTests l) ≡ Done
-  file-runs done = done-front (runsTests l) (true-ranges (badRange l) (count l) ∷ []) done .0
+  file-runs done = done-front (runsTests l) ((eqb (badRange l) (count l), Range (badRange l)) ∷ []) refl done .0
 
   -- Where those up to the run indices refuse the file, that is its answer; where they do not, the ranges decide.
   pub file-refused : (numberOf (fileAnswer (runsTests l)) ≡ 0 → ⊥) → fileAnswer (fileTests l) ≡ fileAnswer (runsTests l)
-  file-refused refused = in-front-refused (runsTests l) (true-ranges (badRange l) (count l) ∷ []) (λ d. refused (ap numberOf d))
+  file-refused refused = in-front-refused (runsTests l) ((eqb (badRange l) (count l), Range (badRange l)) ∷ []) (λ d. refused (ap numberOf d))
 
-  pub file-ranges : fileAnswer (runsTests l) ≡ Done → fileAnswer (fileTests l) ≡ fileAnswer (true-ranges (badRange l) (count l) ∷ [])
-  file-ranges done = in-front-done (runsTests l) (true-ranges (badRange l) (count l) ∷ []) done
+  pub file-ranges : fileAnswer (runsTests l) ≡ Done → fileAnswer (fileTests l) ≡ fileAnswer ((eqb (badRange l) (count l), Range (badRange l)) ∷ [])
+  file-ranges done = in-front-done (runsTests l) ((eqb (badRange l) (count l), Range (badRange l)) ∷ []) refl done
 
   pub file-true : fileAnswer (fileTests l) ≡ Done → badRange l ≡ count l
   file-true done =
-      let last = done-front (runsTests l) (true-ranges (badRange l) (count l) ∷ []) done .1 in
-      eqb-true (badRange l) (count l) (done-first _ _ last .0)
+      let last = done-front (runsTests l) ((eqb (badRange l) (count l), Range (badRange l)) ∷ []) refl done .1 in
+      eqb-true (badRange l) (count l) (done-first _ _ refl last .0)
 
-  pub ranges-done : badRange l ≡ count l → fileAnswer (true-ranges (badRange l) (count l) ∷ []) ≡ Done
+  pub ranges-done : badRange l ≡ count l → fileAnswer ((eqb (badRange l) (count l), Range (badRange l)) ∷ []) ≡ Done
   ranges-done none = passed _ _ (eq-eqb (badRange l) (count l) none) ∙ none-left
 
-  pub range-at : (p : ℕ) → p ≡ badRange l → (p ≡ count l → ⊥) → fileAnswer (true-ranges (badRange l) (count l) ∷ []) ≡ Range p
+  pub range-at : (p : ℕ) → p ≡ badRange l → (p ≡ count l → ⊥) → fileAnswer ((eqb (badRange l) (count l), Range (badRange l)) ∷ []) ≡ Range p
   range-at p found some = stopped _ _ (ne-eqb (badRange l) (count l) (λ e. some (found ∙ e))) ∙ ap Range (sym found)
 
   -- A block of another edition than 2 has no range to test,

@@ -8,7 +8,7 @@ use mathlib.Core.Path.{_≡_, refl, sym, ap, ap₂, subst, _∙_}
 use Prim.Native.Nat.{ℕ, _*_, _≤_, _<_}
 use native.Mathlib.Decide.{decLe, decLt, ℕ-discrete}
 use native.Mathlib.Omega.{arith}
-use lib.Dec.{eqb}
+use lib.Dec.{eqb, ltb}
 use lib.ListN.{length, getD}
 use borrow.Author.Tests.{lt-ltb, le-ltb, eq-eqb, ne-eqb, eqb-true, eqb-false}
 use Rattle.places.specs.Pick.{pick, both}
@@ -21,7 +21,7 @@ use Rattle.little.specs.Little.{little, numbersOf}
 use Rattle.contents.specs.declared.Entry.{Entry}
 use Rattle.contents.specs.declared.FileAnswer.{FileAnswer}
 use Rattle.contents.specs.declared.FileAnswer.the-variants.{Done, Block, Cut, Edition, BadEntry, Over, Beyond, Runs, Range}
-use Rattle.contents.specs.Answers.{FileTest, a-number, good-runs, true-ranges, fileAnswer, numberOf}
+use Rattle.contents.specs.Answers.{FileTest, fileAnswer, numberOf}
 use Rattle.contents.specs.Contents.{edition, count, contentsSize, entryOf, rangeOf, isRight, badEntry, bodyStart, entriesTests, contentsTests}
 use Rattle.contents.specs.First.{firstBad}
 use Rattle.contents.proofs.Accepted.{accepted, accepts}
@@ -142,7 +142,7 @@ module _ (l : List ℕ) where
 
   of-contents : (a : FileAnswer) → fileAnswer (contentsTests l (length l)) ≡ a → (numberOf a ≡ 0 → ⊥) → fileAnswer (fileTests l) ≡ a
   of-contents a e h =
-      in-front-refused (contentsTests l (length l)) (good-runs (badRuns l) (count l) ∷ true-ranges (badRange l) (count l) ∷ []) (λ d. apart a h (sym e ∙ d))
+      in-front-refused (contentsTests l (length l)) ((eqb (badRuns l) (count l), Runs (badRuns l)) ∷ (eqb (badRange l) (count l), Range (badRange l)) ∷ []) (λ d. apart a h (sym e ∙ d))
       ∙ e
 
   of-entries : (a : FileAnswer) → Headed l → fileAnswer (entriesTests l (length l)) ≡ a → (numberOf a ≡ 0 → ⊥) → fileAnswer (fileTests l) ≡ a
@@ -169,10 +169,10 @@ module _ (l : List ℕ) where
         end = w .end;
       }
 
-  of-runs : Right l → fileAnswer (fileTests l) ≡ fileAnswer (good-runs (badRuns l) (count l) ∷ true-ranges (badRange l) (count l) ∷ [])
-  of-runs r = in-front-done (contentsTests l (length l)) (good-runs (badRuns l) (count l) ∷ true-ranges (badRange l) (count l) ∷ []) (right-done r)
+  of-runs : Right l → fileAnswer (fileTests l) ≡ fileAnswer ((eqb (badRuns l) (count l), Runs (badRuns l)) ∷ (eqb (badRange l) (count l), Range (badRange l)) ∷ [])
+  of-runs r = in-front-done (contentsTests l (length l)) ((eqb (badRuns l) (count l), Runs (badRuns l)) ∷ (eqb (badRange l) (count l), Range (badRange l)) ∷ []) refl (right-done r)
 
-  of-ranges : Right l → GoodTo l (count l) → fileAnswer (fileTests l) ≡ fileAnswer (true-ranges (badRange l) (count l) ∷ [])
+  of-ranges : Right l → GoodTo l (count l) → fileAnswer (fileTests l) ≡ fileAnswer ((eqb (badRange l) (count l), Range (badRange l)) ∷ [])
   of-ranges r good = of-runs r ∙ passed _ _ (eq-eqb (badRuns l) (count l) (all-runs-found good))
 
   pub reason-gives : {a : FileAnswer} → Reason l a → fileAnswer (fileTests l) ≡ a
@@ -281,12 +281,12 @@ module _ (l : List ℕ) where
   refused-front x a n r = in-front-refused (fileTests l) (x ∷ []) (λ d. n (sym (reason-gives r) ∙ d)) ∙ reason-gives r
 
   right-front : (x : FileTest) → Reason l Done → fileAnswer (fileTests l ++ (x ∷ [])) ≡ fileAnswer (x ∷ [])
-  right-front x r = in-front-done (fileTests l) (x ∷ []) (reason-gives r)
+  right-front x r = in-front-done (fileTests l) (x ∷ []) refl (reason-gives r)
 
-  number-there : (n m : ℕ) → n < m → fileAnswer (a-number n m ∷ []) ≡ Done
+  number-there : (n m : ℕ) → n < m → fileAnswer ((ltb n m, Beyond) ∷ []) ≡ Done
   number-there n m h = passed _ _ (lt-ltb n m h) ∙ none-left
 
-  number-beyond : (n m : ℕ) → m ≤ n → fileAnswer (a-number n m ∷ []) ≡ Beyond
+  number-beyond : (n m : ℕ) → m ≤ n → fileAnswer ((ltb n m, Beyond) ∷ []) ≡ Beyond
   number-beyond n m h = stopped _ _ (le-ltb n m h)
 
   -- whether a file is done
@@ -299,9 +299,9 @@ module _ (l : List ℕ) where
 
   module _ (p : ℕ) where
     row-gives : {a : FileAnswer} → RowReason l p a → fileAnswer (rowTests l p) ≡ a
-    row-gives (of-file-row a n r) = refused-front (a-number p (rowCount l)) a n r
-    row-gives (no-row r h) = right-front (a-number p (rowCount l)) r ∙ number-beyond p (rowCount l) h
-    row-gives (row-there r h) = right-front (a-number p (rowCount l)) r ∙ number-there p (rowCount l) h
+    row-gives (of-file-row a n r) = refused-front ((ltb p (rowCount l), Beyond)) a n r
+    row-gives (no-row r h) = right-front ((ltb p (rowCount l), Beyond)) r ∙ number-beyond p (rowCount l) h
+    row-gives (row-there r h) = right-front ((ltb p (rowCount l), Beyond)) r ∙ number-there p (rowCount l) h
 
     from-row : (a : FileAnswer) × RowReason l p a
     from-row =
@@ -319,14 +319,14 @@ module _ (l : List ℕ) where
     row-exactly a = ((λ e. subst (RowReason l p) (sym (row-gives (from-row .1)) ∙ e) (from-row .1)), (λ r. row-gives r))
 
   module _ (b : ℕ) (output : List ℕ) where
-    sized : length output ≡ 1024 → fileAnswer (blockTests l b output) ≡ fileAnswer (fileTests l ++ (a-number b (count l) ∷ []))
+    sized : length output ≡ 1024 → fileAnswer (blockTests l b output) ≡ fileAnswer (fileTests l ++ ((ltb b (count l), Beyond) ∷ []))
     sized e = passed _ _ (eq-eqb (length output) 1024 e)
 
     block-gives : {a : FileAnswer} → BlockReason l b output a → fileAnswer (blockTests l b output) ≡ a
     block-gives (bad-output h) = stopped _ _ (ne-eqb (length output) 1024 h)
-    block-gives (of-file-block a e n r) = sized e ∙ refused-front (a-number b (count l)) a n r
-    block-gives (no-block e r h) = sized e ∙ right-front (a-number b (count l)) r ∙ number-beyond b (count l) h
-    block-gives (block-there e r h) = sized e ∙ right-front (a-number b (count l)) r ∙ number-there b (count l) h
+    block-gives (of-file-block a e n r) = sized e ∙ refused-front ((ltb b (count l), Beyond)) a n r
+    block-gives (no-block e r h) = sized e ∙ right-front ((ltb b (count l), Beyond)) r ∙ number-beyond b (count l) h
+    block-gives (block-there e r h) = sized e ∙ right-front ((ltb b (count l), Beyond)) r ∙ number-there b (count l) h
 
     from-block : (a : FileAnswer) × BlockReason l b output a
     from-block =

@@ -80,7 +80,7 @@ module _ (l : List ℕ) where
       × (rowOf l p ≡ given (entryOf l (p / 1024)) (p % 1024) (getD (blockLeaves l (p / 1024) output) (p % 1024) 0))
   unfolding blockLeaves rowAt
   row-block done p h output e =
-      let out = block-done (fileTests l) (p / 1024) (count l) output e done (omega arith) in
+      let out = block-done l (p / 1024) output e done (omega arith) in
       let given-as = given (entryOf l (p / 1024)) (p % 1024) in
       let looked : rowOf l p ≡ given-as (getD (blockIn l (p / 1024)) (p % 1024) 0) = row-done l p (row-as-block l p output e ∙ out) in (
         looked ∙ ap given-as (sym (row-place p h)),

@@ -12,7 +12,7 @@ use borrow.Author.Tests.{eqb-true, eqb-false}
 use Rattle.places.specs.Answers.{unless}
 use Rattle.contents.specs.declared.FileAnswer.{FileAnswer}
 use Rattle.contents.specs.declared.FileAnswer.the-variants.{Done, Runs, Range}
-use Rattle.contents.specs.Answers.{FileTest, good-runs, true-ranges, fileAnswer, numberOf, isDone}
+use Rattle.contents.specs.Answers.{FileTest, fileAnswer, numberOf, isDone}
 use Rattle.contents.specs.Contents.{count, entryOf, contentsTests}
 use Rattle.contents.specs.First.{firstBad}
 use Rattle.contents.proofs.Answers.{in-front-done, in-front-refused, number-done, left-refused}
@@ -44,7 +44,7 @@ module _ (l : List ℕ) where
       first-ext (count l) (λ i. hasGoodRuns (entryOf l i) (bodyOf l i)) (λ i. isDone (fileAnswer (bodyTests (entryOf l i) (bodyOf l i))))
       (λ i h. sym (ap isDone (body-tested l done i h) ∙ tested-done (hasGoodRuns (entryOf l i) (bodyOf l i))))
 
-  bodies-answer : (bad other n : ℕ) → fileAnswer (good-runs bad n ∷ true-ranges other n ∷ []) ≡ byBodies bad other n
+  bodies-answer : (bad other n : ℕ) → fileAnswer ((eqb bad n, Runs bad) ∷ (eqb other n, Range other) ∷ []) ≡ byBodies bad other n
   unfolding fileAnswer
   bodies-answer bad other n = refl
 
@@ -52,13 +52,13 @@ module _ (l : List ℕ) where
   file-steps = go (isDone (fileAnswer (contentsTests l (length l)))) refl
     where
       last : List FileTest
-      last = good-runs (badRuns l) (count l) ∷ true-ranges (badRange l) (count l) ∷ []
+      last = (eqb (badRuns l) (count l), Runs (badRuns l)) ∷ (eqb (badRange l) (count l), Range (badRange l)) ∷ []
 
       go : (t : Bool) → isDone (fileAnswer (contentsTests l (length l))) ≡ t
           → fileAnswer (fileTests l) ≡ unless t (fileAnswer (contentsTests l (length l))) (byBodies (badBody l) (badRange l) (count l))
       go true e =
           let done = number-done (fileAnswer (contentsTests l (length l))) (eqb-true (numberOf (fileAnswer (contentsTests l (length l)))) 0 e) in
-          in-front-done (contentsTests l (length l)) last done
+          in-front-done (contentsTests l (length l)) last refl done
           ∙ bodies-answer (badRuns l) (badRange l) (count l)
           ∙ ap (λ b. byBodies b (badRange l) (count l)) (same-bad done)
       go false e =

@@ -4,11 +4,13 @@
 use mathlib.Core.Bool.{Bool, true}
 use mathlib.Core.List.{List, [], _∷_, _++_}
 use Prim.Native.Nat.{ℕ, _*_, _/_, _%_}
-use lib.Dec.{eqb}
+use lib.Dec.{eqb, ltb}
 use lib.ListN.{length, getD, take, drop}
+use Rattle.places.specs.Takes.{long}
 use Rattle.places.specs.Pick.{pick}
 use Rattle.places.specs.Tab.{tab}
-use Rattle.contents.specs.Answers.{FileTest, a-block, a-number, good-runs, true-ranges, fileAnswer, left}
+use Rattle.contents.specs.declared.FileAnswer.the-variants.{Beyond, Block, Range, Runs}
+use Rattle.contents.specs.Answers.{FileTest, fileAnswer, left}
 use Rattle.contents.specs.Contents.{edition, count, entryOf, rangeOf, bodyStart, contentsTests}
 use Rattle.contents.specs.First.{firstBad}
 use Rattle.bodies.specs.Bodies.{blockOf, hasGoodRuns}
@@ -49,11 +51,15 @@ badRange l = firstBad (count l) (hasTrueRange l)
 -- The tests of a whole file are, in the order of Items 1 and 9, those of its contents against its length, then that of the run indices, and
 -- then that of the ranges.
 abbrev pub fileTests : (l : List ℕ) → List FileTest
-fileTests l = contentsTests l (length l) ++ (good-runs (badRuns l) (count l) ∷ true-ranges (badRange l) (count l) ∷ [])
+fileTests l =
+    contentsTests l (length l)
+    ++ ((eqb (badRuns l) (count l), Runs (badRuns l))
+    ∷ (eqb (badRange l) (count l), Range (badRange l))
+    ∷ [])
 
 -- One block out tests its output first, and the number of the block last.
 abbrev pub blockTests : (l : List ℕ) (b : ℕ) (output : List ℕ) → List FileTest
-blockTests l b output = a-block output ∷ (fileTests l ++ (a-number b (count l) ∷ []))
+blockTests l b output = (long 1024 output, Block) ∷ (fileTests l ++ ((ltb b (count l), Beyond) ∷ []))
 
 -- One block out leaves this in its output.
 unfoldable pub blockLeaves : (l : List ℕ) (b : ℕ) (output : List ℕ) → List ℕ
@@ -61,4 +67,4 @@ blockLeaves l b output = left (fileAnswer (blockTests l b output)) (blockIn l b)
 
 -- The lookup of a row tests the number of the row last.
 abbrev pub rowTests : (l : List ℕ) (p : ℕ) → List FileTest
-rowTests l p = fileTests l ++ (a-number p (rowCount l) ∷ [])
+rowTests l p = fileTests l ++ ((ltb p (rowCount l), Beyond) ∷ [])

@@ -24,8 +24,8 @@ ghost use lib.ListN.{length, getD};
 ghost use Rattle.places.specs.Pick.{pick, either};
 ghost use Rattle.places.specs.Sizes.{t64};
 ghost use Rattle.access.specs.Counts.{countAt};
-ghost use Rattle.contents.specs.declared.FileAnswer.the-variants.{Done, Runs};
-ghost use Rattle.contents.specs.Answers.{true-ranges, fileAnswer, numberOf};
+ghost use Rattle.contents.specs.declared.FileAnswer.the-variants.{Done, Runs, Range};
+ghost use Rattle.contents.specs.Answers.{fileAnswer, numberOf};
 ghost use Rattle.contents.specs.Contents.{edition as editionIn, count as countIn, entryOf, bodyStart, contentsTests};
 ghost use Rattle.contents.specs.First.{firstBad};
 ghost use Rattle.bodies.specs.Bodies.{hasGoodRuns};
@@ -49,7 +49,7 @@ pub fn check(file: &[u8]) -> FileAnswer
 // Checks the ranges of a file that is right up to its run indices.
 fn check_ranges(file: &[u8]) -> FileAnswer
     requires { ⌜ fileAnswer (runsTests (now file)) ≡ Done ⌝ }
-    ensures { λ r. ⌜ r ≡ fileAnswer (true-ranges (badRange (now (file .entry))) (countIn (now (file .entry))) ∷ []) ⌝ }
+    ensures { λ r. ⌜ r ≡ fileAnswer ((eqb (badRange (now (file .entry))) (countIn (now (file .entry))), Range (badRange (now (file .entry)))) ∷ []) ⌝ }
 {
     if edition(file) != 2 {
         return FileAnswer::Done;

@@ -81,7 +81,7 @@ module _ (l : List ℕ) (accepted : answerTo l ≡ Accepted) where
     body-taken : fileAnswer (bodyTests (frontOf l) i (bodyOf l i)) ≡ Accepted
     body-taken =
         let zeros : List ℕ = replicate 1024 0 in
-        done-first _ _ (again-answer l (frontOf l) (front-right l) accepted i h zeros (length-replicate {A = ℕ} 1024 0)) .1
+        done-first _ _ refl (again-answer l (frontOf l) (front-right l) accepted i h zeros (length-replicate {A = ℕ} 1024 0)) .1
 
     block-read : blockOf (entryOr (frontOf l) i) (bodyOf l i) ≡ blockIn l i
     unfolding blockIn

@@ -1,16 +1,16 @@
 -- What is given and left by an answer: of a call that is done, and of one that is refused. And a list of tests that all pass.
 -- Assumes nothing.
 use mathlib.Core.Bool.{Bool, true, false}
-use mathlib.Core.List.{List, [], _∷_}
+use mathlib.Core.List.{List, _∷_, map}
 use mathlib.Core.Path.{_≡_, refl, sym, ap, _∙_}
 use Prim.Native.Nat.{ℕ, suc}
 use native.Mathlib.Omega.{arith}
 use borrow.Author.Tests.{eq-eqb, ne-eqb}
 use Rattle.places.specs.declared.Answer.{Answer}
 use Rattle.places.specs.declared.Answer.the-variants.{Done, Width, Block, Packed, Base, Lists, Index, Dictionary}
-use Rattle.places.specs.Answers.{numberOf, isDone, left, unless, firstRefusal}
+use Rattle.places.specs.Answers.{numberOf, isDone, left, unless, Test, firstRefusal}
 use Rattle.places.specs.Pick.{pick}
-use Rattle.places.specs.Takes.{Taken, a-width, a-block, a-packed, a-base, two-lists, an-index, an-index-list, dictionary-indices, passes, refusal, answerFor}
+use Rattle.places.specs.Takes.{Taken, a-width, a-block, a-packed, a-base, two-lists, an-index, an-index-list, dictionary-indices, tested, answerFor}
 
 pub done : (a : Answer) (z new old : List ℕ) → a ≡ Done → z ≡ new → (Done ≡ a) × (z ≡ left a new old)
 done a z new old e f = (sym e, f ∙ sym (ap (λ b. left b new old) e))
@@ -65,16 +65,15 @@ module _ {S : Type 0} (given : S) (refused : Answer → S) where
       go false = same a
 
 -- Where all tests of a list pass, the first one does, and so do the others, if its refusal is not what stands for a call that is done.
-pub first-passed : {X A : Type 0} (passes : X → Bool) (refusal : X → A) (done : A) (x : X) (xs : List X) → (refusal x ≡ done → ⊥)
-    → firstRefusal passes refusal done (x ∷ xs) ≡ done → (passes x ≡ true) × (firstRefusal passes refusal done xs ≡ done)
-first-passed passes refusal done x xs other e = go (passes x) refl e
+pub first-passed : {A : Type 0} (done : A) (x : Test A) (xs : List (Test A)) → (x .1 ≡ done → ⊥)
+    → firstRefusal done (x ∷ xs) ≡ done → (x .0 ≡ true) × (firstRefusal done xs ≡ done)
+first-passed done x xs other e = go (x .0) refl e
   where
-    go : (b : Bool) → passes x ≡ b → unless b (refusal x) (firstRefusal passes refusal done xs) ≡ done
-        → (passes x ≡ true) × (firstRefusal passes refusal done xs ≡ done)
+    go : (b : Bool) → x .0 ≡ b → unless b (x .1) (firstRefusal done xs) ≡ done → (x .0 ≡ true) × (firstRefusal done xs ≡ done)
     go true p e = (p, e)
     go false p e = absurd (other e)
 
-no-refusal : (x : Taken) → refusal x ≡ Done → ⊥
+no-refusal : (x : Taken) → tested x .1 ≡ Done → ⊥
 no-refusal (a-width t w) e = number-apart (ap numberOf e)
 no-refusal (a-block values) e = number-apart (ap numberOf e)
 no-refusal (a-packed t w words) e = number-apart (ap numberOf e)
@@ -85,6 +84,6 @@ no-refusal (an-index-list list) e = number-apart (ap numberOf e)
 no-refusal (dictionary-indices dictionary list) e = number-apart (ap numberOf e)
 
 -- So it is of what a call takes.
-pub first-passes : (x : Taken) (xs : List Taken) → answerFor (x ∷ xs) ≡ Done → (passes x ≡ true) × (answerFor xs ≡ Done)
+pub first-passes : (x : Taken) (xs : List Taken) → answerFor (x ∷ xs) ≡ Done → (tested x .0 ≡ true) × (answerFor xs ≡ Done)
 unfolding answerFor
-first-passes x xs e = first-passed passes refusal Done x xs (no-refusal x) e
+first-passes x xs e = first-passed Done (tested x) (map tested xs) (no-refusal x) e

@@ -35,11 +35,15 @@ placeOf (Dictionary p) = p
 abbrev pub unless : {A : Type 0} → (test : Bool) (refusal rest : A) → A
 unless test refusal rest = pick test rest refusal
 
+-- A test of a call stands with the refusal that is given where it fails: the first of the two is the test, and the second the refusal.
+abbrev pub Test : (A : Type 0) → Type 0
+Test A = Bool × A
+
 -- The tests of a call stand in a list. The first one that fails gives its refusal, and where every one passes the call is done. The layers
--- differ in what can be tested and in their answers, and all of them go through their tests so.
-abbrev pub firstRefusal : {X A : Type 0} → (passes : X → Bool) (refusal : X → A) (done : A) → List X → A
-firstRefusal passes refusal done [] = done
-firstRefusal passes refusal done (x ∷ xs) = unless (passes x) (refusal x) (firstRefusal passes refusal done xs)
+-- differ in their answers, and all of them go through their tests so.
+abbrev pub firstRefusal : {A : Type 0} → (done : A) → List (Test A) → A
+firstRefusal done [] = done
+firstRefusal done (x ∷ xs) = unless (x .0) (x .1) (firstRefusal done xs)
 
 -- This test says that the call is done, which is number 0.
 abbrev pub isDone : Answer → Bool

@@ -3,13 +3,13 @@
 -- lowest number that applies is the one that is given.
 -- Assumes nothing.
 use mathlib.Core.Bool.{Bool}
-use mathlib.Core.List.{List}
+use mathlib.Core.List.{List, map}
 use Prim.Native.Nat.{ℕ, _*_}
 use lib.Dec.{eqb, leb, ltb}
 use lib.ListN.{length}
 use Rattle.places.specs.declared.Answer.{Answer}
 use Rattle.places.specs.declared.Answer.the-variants.{Done, Width, Block, Packed, Base, Lists, Index, Dictionary}
-use Rattle.places.specs.Answers.{firstRefusal}
+use Rattle.places.specs.Answers.{Test, firstRefusal}
 use Rattle.places.specs.Search.{firstBeyond}
 use Rattle.places.specs.Sizes.{lanes}
 
@@ -36,28 +36,19 @@ pub data Taken : Type 0 where
 abbrev pub long : (n : ℕ) (list : List ℕ) → Bool
 long n list = eqb (length list) n
 
--- This is the test that the table makes of each of them. An index is looked at at every width (document 02, Item 2).
-abbrev pub passes : Taken → Bool
-passes (a-width t w) = leb w t
-passes (a-block values) = long 1024 values
-passes (a-packed t w words) = long (lanes t * w) words
-passes (a-base t starts) = long (lanes t) starts
-passes (two-lists list output) = long (length list) output
-passes (an-index i) = ltb i 1024
-passes (an-index-list list) = eqb (firstBeyond 1024 list) (length list)
-passes (dictionary-indices dictionary list) = eqb (firstBeyond (length dictionary) list) (length list)
-
--- This is the refusal where the test fails. Numbers 6 and 7 carry the lowest bad place of a list, and 6 carries 0 for one index.
-abbrev pub refusal : Taken → Answer
-refusal (a-width t w) = Width
-refusal (a-block values) = Block
-refusal (a-packed t w words) = Packed
-refusal (a-base t starts) = Base
-refusal (two-lists list output) = Lists
-refusal (an-index i) = Index 0
-refusal (an-index-list list) = Index (firstBeyond 1024 list)
-refusal (dictionary-indices dictionary list) = Dictionary (firstBeyond (length dictionary) list)
+-- This is the table: the test that is made of each of them, and the refusal where it fails. An index is looked at at every width (document 02,
+-- Item 2). Numbers 6 and 7 carry the lowest bad place of a list, and 6 carries 0 for one index.
+abbrev pub tested : Taken → Test Answer
+tested (a-width t w) = (leb w t, Width)
+tested (a-block values) = (long 1024 values, Block)
+tested (a-packed t w words) = (long (lanes t * w) words, Packed)
+tested (a-base t starts) = (long (lanes t) starts, Base)
+tested (two-lists list output) = (long (length list) output, Lists)
+tested (an-index i) = (ltb i 1024, Index 0)
+tested (an-index-list list) = (eqb (firstBeyond 1024 list) (length list), Index (firstBeyond 1024 list))
+tested (dictionary-indices dictionary list) =
+    (eqb (firstBeyond (length dictionary) list) (length list), Dictionary (firstBeyond (length dictionary) list))
 
 -- A call that takes these things answers with the first refusal of the list, and where every test passes it is done.
 unfoldable pub answerFor : List Taken → Answer
-answerFor taken = firstRefusal passes refusal Done taken
+answerFor taken = firstRefusal Done (map tested taken)

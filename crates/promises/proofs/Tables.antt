@@ -7,7 +7,7 @@ use mathlib.Core.Logic.{_↔_, Iff·rfl, Iff·trans, _⊎_, inl, inr, ⊎-elim, 
 use mathlib.Core.Path.{_≡_, refl, sym, ap, ap₂, subst, _∙_}
 use Prim.Native.Nat.{ℕ, zero, suc, _*_, _≤_, _<_}
 use native.Mathlib.Omega.{arith}
-use lib.Dec.{eqb, leb, ltb}
+use lib.Dec.{eqb, ltb}
 use lib.ListN.{length, getD}
 use borrow.Author.Tests.{lt-ltb, ltb-true, ltb-false, leb-true, leb-false, eqb-true, eqb-false}
 use Rattle.places.specs.declared.Answer.{Answer}
@@ -16,7 +16,7 @@ use Rattle.places.specs.Answers.{numberOf, placeOf, unless}
 use Rattle.places.specs.Pick.{pick, both, either}
 use Rattle.places.specs.Search.{firstBeyond}
 use Rattle.places.specs.Sizes.{lanes}
-use Rattle.places.specs.Takes.{Taken, passes, refusal, answerFor}
+use Rattle.places.specs.Takes.{Taken, tested, answerFor}
 use Rattle.places.specs.Takes.{a-width, a-block, a-packed, a-base, two-lists, an-index, an-index-list, dictionary-indices}
 use Rattle.places.proofs.Tests.{both-true, either-true, false-true}
 use Rattle.places.proofs.Search.{first-beyond-le, first-beyond-before, first-beyond-at, first-beyond-only, first-beyond-none}
@@ -48,7 +48,7 @@ module _ (limit : ℕ) (list : List ℕ) where
 -- ---- one thing that a call takes
 
 -- The refusal has the number of the table, which is not 0.
-numbered : (x : Taken) → (numberOf (refusal x) ≡ numberFor x) × (0 < numberFor x)
+numbered : (x : Taken) → (numberOf (tested x .1) ≡ numberFor x) × (0 < numberFor x)
 numbered (a-width t w) = (refl, omega arith)
 numbered (a-block values) = (refl, omega arith)
 numbered (a-packed t w words) = (refl, omega arith)
@@ -70,7 +70,7 @@ InOrder (an-index-list list) = (i : ℕ) → i < length list → getD list i 0 <
 InOrder (dictionary-indices dictionary list) = (i : ℕ) → i < length list → getD list i 0 < length dictionary
 
 -- Where the test passes, it is,
-passed : (x : Taken) → passes x ≡ true → InOrder x
+passed : (x : Taken) → tested x .0 ≡ true → InOrder x
 passed (a-width t w) e = leb-true w t e
 passed (a-block values) e = eqb-true (length values) 1024 e
 passed (a-packed t w words) e = eqb-true (length words) (lanes t * w) e
@@ -92,7 +92,7 @@ no-condition (an-index-list list) o p c = not-lowest 1024 list o p c
 no-condition (dictionary-indices dictionary list) o p c = not-lowest (length dictionary) list o p c
 
 -- Where the test fails, the condition holds at the refusal's place,
-failed : (x : Taken) → passes x ≡ false → Condition x (placeOf (refusal x))
+failed : (x : Taken) → tested x .0 ≡ false → Condition x (placeOf (tested x .1))
 failed (a-width t w) e = (leb-false w t e, refl)
 failed (a-block values) e = (eqb-false (length values) 1024 e, refl)
 failed (a-packed t w words) e = (eqb-false (length words) (lanes t * w) e, refl)
@@ -104,7 +104,7 @@ failed (dictionary-indices dictionary list) e =
     lowest-is (length dictionary) list (eqb-false (firstBeyond (length dictionary) list) (length list) e)
 
 -- and at no other.
-placed : (x : Taken) (p : ℕ) → Condition x p → placeOf (refusal x) ≡ p
+placed : (x : Taken) (p : ℕ) → Condition x p → placeOf (tested x .1) ≡ p
 placed (a-width t w) p c = sym (c .1)
 placed (a-block values) p c = sym (c .1)
 placed (a-packed t w words) p c = sym (c .1)
@@ -141,7 +141,7 @@ ordered (x ∷ xs) = both (allFollow x xs) (ordered xs)
 
 -- So what applies after x has a higher number, or x's own number and place.
 later : (x y : Taken) → follows x y ≡ true → (p : ℕ) → Condition y p
-    → (numberFor x < numberFor y) ⊎ ((numberFor x ≡ numberFor y) × (placeOf (refusal x) ≡ p))
+    → (numberFor x < numberFor y) ⊎ ((numberFor x ≡ numberFor y) × (placeOf (tested x .1) ≡ p))
 later x y e p c =
     ⊎-elim
     (λ h. inl (ltb-true (numberFor x) (numberFor y) h))
@@ -152,15 +152,15 @@ later x y e p c =
     let low : numberFor x < 6 = ltb-true (numberFor x) 6 (f .1) in
     inr (
       same,
-      place-zero (refusal x) (omega (arith, numbered x)) ∙ sym (place-zero (refusal y) (omega (arith, numbered y))) ∙ placed y p c,
+      place-zero (tested x .1) (omega (arith, numbered x)) ∙ sym (place-zero (tested y .1) (omega (arith, numbered y))) ∙ placed y p c,
     ))
     (either-true (ltb (numberFor x) (numberFor y)) (both (eqb (numberFor x) (numberFor y)) (ltb (numberFor x) 6)) e)
 
 after : (x : Taken) (ys : List Taken) → allFollow x ys ≡ true → (n p : ℕ) → Applies ys n p
-    → (numberFor x < n) ⊎ ((numberFor x ≡ n) × (placeOf (refusal x) ≡ p))
+    → (numberFor x < n) ⊎ ((numberFor x ≡ n) × (placeOf (tested x .1) ≡ p))
 after x [] e n p a = absurd a
 after x (y ∷ ys) e n p (inl h) =
-    subst (λ (n : ℕ). (numberFor x < n) ⊎ ((numberFor x ≡ n) × (placeOf (refusal x) ≡ p))) (h .0)
+    subst (λ (n : ℕ). (numberFor x < n) ⊎ ((numberFor x ≡ n) × (placeOf (tested x .1) ≡ p))) (h .0)
     (later x y (both-true (follows x y) (allFollow x ys) e .0) p (h .1))
 after x (y ∷ ys) e n p (inr a) = after x ys (both-true (follows x y) (allFollow x ys) e .1) n p a
 
@@ -168,11 +168,11 @@ after x (y ∷ ys) e n p (inr a) = after x ys (both-true (follows x y) (allFollo
 
 module _ (x : Taken) (xs : List Taken) where
   -- Where the first test passes, what is taken after it decides.
-  rest : passes x ≡ true → (n p : ℕ) → Applies (x ∷ xs) n p → Applies xs n p
+  rest : tested x .0 ≡ true → (n p : ℕ) → Applies (x ∷ xs) n p → Applies xs n p
   rest e n p (inl h) = absurd (no-condition x (passed x e) p (h .1))
   rest e n p (inr a) = a
 
-  given-rest : passes x ≡ true → (n p : ℕ) → Given xs n p ↔ Given (x ∷ xs) n p
+  given-rest : tested x .0 ≡ true → (n p : ℕ) → Given xs n p ↔ Given (x ∷ xs) n p
   given-rest e zero p = (
     (λ g. (g .0, λ m q a. g .1 m q (rest e m q a))),
     (λ g. (g .0, λ m q a. g .1 m q (inr a))),
@@ -183,11 +183,11 @@ module _ (x : Taken) (xs : List Taken) where
   )
 
   -- Where it fails, its own number and place are given, since what is taken after it has no lower number.
-  given-first : passes x ≡ false → allFollow x xs ≡ true → (n p : ℕ)
-      → Gives (refusal x) n p ↔ Given (x ∷ xs) n p
+  given-first : tested x .0 ≡ false → allFollow x xs ≡ true → (n p : ℕ)
+      → Gives (tested x .1) n p ↔ Given (x ∷ xs) n p
   given-first e f zero p = (
     (λ h. absurd (omega (arith, numbered x))),
-    (λ g. absurd (g .1 (numberFor x) (placeOf (refusal x)) (inl (refl, failed x e)))),
+    (λ g. absurd (g .1 (numberFor x) (placeOf (tested x .1)) (inl (refl, failed x e)))),
   )
   given-first e f (suc n) p = (
     (λ h. (
@@ -202,7 +202,7 @@ module _ (x : Taken) (xs : List Taken) where
         (λ h. (numbered x .0 ∙ h .0, placed x p (h .1)))
         (λ a.
         ⊎-elim
-        (λ h. absurd (g .1 (numberFor x) (placeOf (refusal x)) h (inl (refl, failed x e))))
+        (λ h. absurd (g .1 (numberFor x) (placeOf (tested x .1)) h (inl (refl, failed x e))))
         (λ h. (numbered x .0 ∙ h .0, h .1))
         (after x xs f (suc n) p a))
         (g .0)),
@@ -213,10 +213,10 @@ pub exactly : (xs : List Taken) → ordered xs ≡ true → Exactly (answerFor x
 unfolding answerFor
 exactly [] o zero p = ((λ h. (sym (h .1), λ m q a. a)), (λ g. (refl, sym (g .0))))
 exactly [] o (suc n) p = ((λ h. absurd (omega arith)), (λ g. absurd (g .0)))
-exactly (x ∷ xs) o n p = go (passes x) refl (exactly xs (both-true (allFollow x xs) (ordered xs) o .1) n p)
+exactly (x ∷ xs) o n p = go (tested x .0) refl (exactly xs (both-true (allFollow x xs) (ordered xs) o .1) n p)
   where
-    go : (b : Bool) → passes x ≡ b → Gives (answerFor xs) n p ↔ Given xs n p
-        → Gives (unless b (refusal x) (answerFor xs)) n p ↔ Given (x ∷ xs) n p
+    go : (b : Bool) → tested x .0 ≡ b → Gives (answerFor xs) n p ↔ Given xs n p
+        → Gives (unless b (tested x .1) (answerFor xs)) n p ↔ Given (x ∷ xs) n p
     go true e r = Iff·trans r (given-rest x xs e n p)
     go false e r = given-first x xs e (both-true (allFollow x xs) (ordered xs) o .0) n p
 
@@ -267,11 +267,11 @@ Plain taken (suc n) p = AllThen (keep (λ m. ltb m (suc n)) taken) (OneOf (keep 
 
 -- What meets its condition nowhere is in order.
 in-order : (x : Taken) → ((p : ℕ) → ¬ Condition x p) → InOrder x
-in-order x none = go (passes x) refl
+in-order x none = go (tested x .0) refl
   where
-    go : (b : Bool) → passes x ≡ b → InOrder x
+    go : (b : Bool) → tested x .0 ≡ b → InOrder x
     go true e = passed x e
-    go false e = absurd (none (placeOf (refusal x)) (failed x e))
+    go false e = absurd (none (placeOf (tested x .1)) (failed x e))
 
 -- No number that passes the test applies exactly when all that has such a number is in order.
 all-kept : (test : ℕ → Bool) (xs : List Taken) (Q : Type 0)

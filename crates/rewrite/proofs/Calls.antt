@@ -1,15 +1,16 @@
 -- What the rewrite answers and leaves, by its tests.
 -- Assumes nothing.
 use mathlib.Core.List.{List, [], _∷_}
-use mathlib.Core.Path.{_≡_, sym, ap, _∙_}
+use mathlib.Core.Path.{_≡_, refl, sym, ap, _∙_}
 use Prim.Native.Nat.{ℕ, _≤_, _<_}
 use borrow.Author.Tests.{ne-eqb, le-leb, lt-leb}
+use lib.Dec.{leb}
 use lib.ListN.{length}
 use Rattle.places.specs.Pick.{pick}
 use Rattle.places.specs.Tab.{over}
 use Rattle.contents.specs.declared.FileAnswer.{FileAnswer}
 use Rattle.contents.specs.declared.FileAnswer.the-variants.{Done, Room}
-use Rattle.contents.specs.Answers.{a-room, fileAnswer, numberOf, isDone, left}
+use Rattle.contents.specs.Answers.{fileAnswer, numberOf, isDone, left}
 use Rattle.contents.proofs.Answers.{passed, stopped, none-left, in-front-done, in-front-refused, left-refused}
 use Rattle.files.specs.Files.{fileTests}
 use Rattle.writer.specs.declared.Written.the-variants.{Length, Refused}
@@ -28,7 +29,7 @@ module _ (l output : List ℕ) where
 
   -- The reader's refusals come first.
   pub bad-file : (a : FileAnswer) → fileAnswer (fileTests l) ≡ a → (numberOf a ≡ 0 → ⊥) → fileAnswer (rewriteTests l output) ≡ a
-  bad-file a e bad = in-front-refused (fileTests l) (a-room (length (newFile l)) (length output) ∷ []) (λ d. bad (ap numberOf (sym e ∙ d))) ∙ e
+  bad-file a e bad = in-front-refused (fileTests l) ((leb (length (newFile l)) (length output), Room) ∷ []) (λ d. bad (ap numberOf (sym e ∙ d))) ∙ e
 
   pub refused-file : (a : FileAnswer) → fileAnswer (fileTests l) ≡ a → (numberOf a ≡ 0 → ⊥) → (Refused a ≡ rewrittenOf l output) × (output ≡ rewriteLeaves l output)
   refused-file a e bad =
@@ -38,8 +39,8 @@ module _ (l output : List ℕ) where
       )
 
   module _ (done : fileAnswer (fileTests l) ≡ Done) where
-    good-file : fileAnswer (rewriteTests l output) ≡ fileAnswer (a-room (length (newFile l)) (length output) ∷ [])
-    good-file = in-front-done (fileTests l) (a-room (length (newFile l)) (length output) ∷ []) done
+    good-file : fileAnswer (rewriteTests l output) ≡ fileAnswer ((leb (length (newFile l)) (length output), Room) ∷ [])
+    good-file = in-front-done (fileTests l) ((leb (length (newFile l)) (length output), Room) ∷ []) refl done
 
     -- 14: the output is shorter than the new file.
     pub new-short : length output < length (newFile l) → fileAnswer (rewriteTests l output) ≡ Room

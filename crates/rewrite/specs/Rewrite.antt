@@ -2,10 +2,12 @@
 -- Assumes nothing.
 use mathlib.Core.List.{List, [], _∷_, _++_}
 use Prim.Native.Nat.{ℕ}
+use lib.Dec.{leb}
 use lib.ListN.{length}
 use Rattle.places.specs.Pick.{pick}
 use Rattle.places.specs.Tab.{over}
-use Rattle.contents.specs.Answers.{FileTest, a-room, fileAnswer, isDone, left}
+use Rattle.contents.specs.declared.FileAnswer.the-variants.{Room}
+use Rattle.contents.specs.Answers.{FileTest, fileAnswer, isDone, left}
 use Rattle.files.specs.Files.{rowsOf, fileTests}
 use Rattle.writer.specs.declared.Written.{Written}
 use Rattle.writer.specs.declared.Written.the-variants.{Length, Refused}
@@ -17,7 +19,7 @@ newFile l = fileOf (rowsOf l)
 
 -- The tests are those of the reader, and behind them whether the output has room for the new file.
 abbrev pub rewriteTests : (l output : List ℕ) → List FileTest
-rewriteTests l output = fileTests l ++ (a-room (length (newFile l)) (length output) ∷ [])
+rewriteTests l output = fileTests l ++ ((leb (length (newFile l)) (length output), Room) ∷ [])
 
 -- The call gives the new file's length, or the refusal,
 unfoldable pub rewrittenOf : (l output : List ℕ) → Written

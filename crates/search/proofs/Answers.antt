@@ -7,7 +7,7 @@ use Prim.Native.Nat.{ℕ, zero, suc, _+_, _*_, _≤_, _<_}
 use native.Mathlib.Nat.{zero-add}
 use native.Mathlib.Numerals.{add-one}
 use native.Mathlib.Omega.{arith}
-use lib.Dec.{leb}
+use lib.Dec.{leb, eqb}
 use lib.ListN.{length}
 use borrow.Author.Tests.{le-leb, eq-eqb, ne-eqb, eqb-true}
 use Rattle.places.specs.Pick.{pick}
@@ -15,7 +15,7 @@ use Rattle.places.specs.Tab.{over}
 use Rattle.places.proofs.Overs.{over-nothing}
 use Rattle.contents.specs.declared.FileAnswer.{FileAnswer}
 use Rattle.contents.specs.declared.FileAnswer.the-variants.{Done, Runs, Range, Room}
-use Rattle.contents.specs.Answers.{true-ranges, a-room, fileAnswer, numberOf, isDone, left}
+use Rattle.contents.specs.Answers.{fileAnswer, numberOf, isDone, left}
 use Rattle.contents.specs.Contents.{edition, count, rangeOf, contentsTests}
 use Rattle.contents.proofs.Accepted.{done-first}
 use Rattle.contents.proofs.Answers.{passed, stopped, none-left, in-front-done, in-front-refused, left-refused}
@@ -69,7 +69,7 @@ module _ (l : List ℕ) (low high : ℕ) where
       stopped _ _ (ne-eqb (badRunsIn l low high) (count l) (λ f. other (e ∙ sym runs-are ∙ f))) ∙ ap Runs (runs-are ∙ sym e)
 
   module _ (good : badIn l low high false ≡ count l) where
-    ranges-left : fileAnswer (openedTests l low high) ≡ fileAnswer (true-ranges (badRangeIn l low high) (count l) ∷ [])
+    ranges-left : fileAnswer (openedTests l low high) ≡ fileAnswer ((eqb (badRangeIn l low high) (count l), Range (badRangeIn l low high)) ∷ [])
     ranges-left = passed _ _ (eq-eqb (badRunsIn l low high) (count l) (runs-are ∙ good))
 
     pub opened-range : (bad : ℕ) → bad ≡ badIn l low high true → (bad ≡ count l → ⊥) → fileAnswer (openedTests l low high) ≡ Range bad
@@ -81,7 +81,7 @@ module _ (l : List ℕ) (low high : ℕ) where
 
   -- Where they are passed, the opened blocks have their run indices in range.
   pub opened-good : fileAnswer (openedTests l low high) ≡ Done → badIn l low high false ≡ count l
-  opened-good done = sym runs-are ∙ eqb-true (badRunsIn l low high) (count l) (done-first _ _ done .0)
+  opened-good done = sym runs-are ∙ eqb-true (badRunsIn l low high) (count l) (done-first _ _ refl done .0)
 
   -- Where every block is not opened or as asked, there is no bad one.
   pub none-bad : (ranges : Bool) → ((i : ℕ) → i < count l → pick (opens l low high i) (asked l ranges i) true ≡ true) → badIn l low high ranges ≡ count l
@@ -173,11 +173,11 @@ module _ (l : List ℕ) (low high : ℕ) where
 
     module _ (right : fileAnswer (contentsTests l (length l)) ≡ Done) where
       pub opened-second : (fileAnswer (openedTests l low high) ≡ Done → ⊥) → fileAnswer (searchTests l low high rows) ≡ fileAnswer (openedTests l low high)
-      opened-second refused = in-front-done (contentsTests l (length l)) _ right ∙ in-front-refused (openedTests l low high) _ refused
+      opened-second refused = in-front-done (contentsTests l (length l)) _ refl right ∙ in-front-refused (openedTests l low high) _ refused
 
       module _ (good : fileAnswer (openedTests l low high) ≡ Done) where
-        room-last : fileAnswer (searchTests l low high rows) ≡ fileAnswer (a-room (length (found l low high)) (length rows) ∷ [])
-        room-last = in-front-done (contentsTests l (length l)) _ right ∙ in-front-done (openedTests l low high) _ good
+        room-last : fileAnswer (searchTests l low high rows) ≡ fileAnswer ((leb (length (found l low high)) (length rows), Room) ∷ [])
+        room-last = in-front-done (contentsTests l (length l)) _ refl right ∙ in-front-done (openedTests l low high) _ refl good
 
         pub no-room : leb (length (found l low high)) (length rows) ≡ false → fileAnswer (searchTests l low high rows) ≡ Room
         no-room short = room-last ∙ stopped _ _ short

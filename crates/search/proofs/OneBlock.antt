@@ -11,7 +11,7 @@ use borrow.Author.Tests.{lt-ltb, le-ltb, le-leb, eq-eqb, ne-eqb}
 use Rattle.places.specs.Tab.{over}
 use Rattle.contents.specs.declared.FileAnswer.{FileAnswer}
 use Rattle.contents.specs.declared.FileAnswer.the-variants.{Done, Block, Beyond, Room}
-use Rattle.contents.specs.Answers.{a-room, fileAnswer, numberOf}
+use Rattle.contents.specs.Answers.{fileAnswer, numberOf}
 use Rattle.contents.proofs.Answers.{passed, stopped, none-left}
 use Rattle.search.specs.declared.Found.the-variants.{Rows, Refused}
 use Rattle.search.specs.Steps.{inBlock, foundIn, rowsIn, listedTests, listedOf, listedLeaves}
@@ -41,11 +41,11 @@ module _ (block : List ℕ) (i low high : ℕ) (rows : List ℕ) where
 
     module _ (h : i < 256) where
       -- and of the room, for as many rows as there are wherever the block begins.
-      room-left : fileAnswer (listedTests block i low high rows) ≡ fileAnswer (a-room (length (foundIn block 0 low high)) (length rows) ∷ [])
+      room-left : fileAnswer (listedTests block i low high rows) ≡ fileAnswer ((leb (length (foundIn block 0 low high)) (length rows), Room) ∷ [])
       room-left =
           passed _ _ (eq-eqb (length block) 1024 long)
           ∙ passed _ _ (lt-ltb i 256 h)
-          ∙ ap (λ n. fileAnswer (a-room n (length rows) ∷ [])) (found-shift block (i * 1024) low high)
+          ∙ ap (λ n. fileAnswer ((leb n (length rows), Room) ∷ [])) (found-shift block (i * 1024) low high)
 
       pub no-place : leb (length (foundIn block 0 low high)) (length rows) ≡ false → fileAnswer (listedTests block i low high rows) ≡ Room
       no-place short = room-left ∙ stopped _ _ short

@@ -7,13 +7,14 @@ use mathlib.Core.Path.{_≡_, refl, sym, ap, subst, _∙_}
 use Prim.Native.Nat.{ℕ, _≤_}
 use native.Mathlib.Decide.{decLe, decLt, ℕ-discrete}
 use native.Mathlib.Omega.{arith}
+use lib.Dec.{eqb}
 use lib.ListN.{length}
 use borrow.Author.Tests.{le-leb, lt-leb}
 use Rattle.places.specs.Pick.{pick}
 use Rattle.places.proofs.Tests.{false-true}
 use Rattle.contents.specs.declared.FileAnswer.{FileAnswer}
 use Rattle.contents.specs.declared.FileAnswer.the-variants.{Done, Runs, Range, Room}
-use Rattle.contents.specs.Answers.{FileTest, good-runs, true-ranges, passes, refusal, fileAnswer, numberOf}
+use Rattle.contents.specs.Answers.{FileTest, fileAnswer, numberOf}
 use Rattle.contents.specs.Contents.{count, entryOf, contentsTests}
 use Rattle.contents.specs.First.{firstBad}
 use Rattle.contents.proofs.First.{first-at}
@@ -36,10 +37,10 @@ Numbered a b xs = (fileAnswer xs ≡ Done) ⊎ ((a ≤ numberOf (fileAnswer xs))
 no-tests : (a b : ℕ) → Numbered a b []
 no-tests a b = inl none-left
 
-one-test : (a b : ℕ) (x : FileTest) (xs : List FileTest) → a ≤ numberOf (refusal x) → numberOf (refusal x) ≤ b → Numbered a b xs → Numbered a b (x ∷ xs)
-one-test a b x xs low high rest = go (passes x) refl
+one-test : (a b : ℕ) (x : FileTest) (xs : List FileTest) → a ≤ numberOf (x .1) → numberOf (x .1) ≤ b → Numbered a b xs → Numbered a b (x ∷ xs)
+one-test a b x xs low high rest = go (x .0) refl
   where
-    go : (t : Bool) → passes x ≡ t → Numbered a b (x ∷ xs)
+    go : (t : Bool) → x .0 ≡ t → Numbered a b (x ∷ xs)
     go true e = subst (λ r. (r ≡ Done) ⊎ ((a ≤ numberOf r) × (numberOf r ≤ b))) (sym (passed x xs e)) rest
     go false e = inr (omega (arith, ap numberOf (stopped x xs e)), omega (arith, ap numberOf (stopped x xs e)))
 
@@ -51,12 +52,12 @@ contents-numbered l size =
     (one-test 8 11 _ _ (omega arith) (omega arith)
     (one-test 8 11 _ _ (omega arith) (omega arith) (one-test 8 11 _ _ (omega arith) (omega arith) (no-tests 8 11))))))
 
-bodies-numbered : (bad other n : ℕ) → Numbered 13 15 (good-runs bad n ∷ true-ranges other n ∷ [])
+bodies-numbered : (bad other n : ℕ) → Numbered 13 15 ((eqb bad n, Runs bad) ∷ (eqb other n, Range other) ∷ [])
 bodies-numbered bad other n = one-test 13 15 _ _ (omega arith) (omega arith) (one-test 13 15 _ _ (omega arith) (omega arith) (no-tests 13 15))
 
 module _ (l : List ℕ) where
   abbrev bodiesTests : List FileTest
-  bodiesTests = good-runs (badRuns l) (count l) ∷ true-ranges (badRange l) (count l) ∷ []
+  bodiesTests = (eqb (badRuns l) (count l), Runs (badRuns l)) ∷ (eqb (badRange l) (count l), Range (badRange l)) ∷ []
 
   -- A reason from 8 to 11 is one of the contents.
   contents-reason : {a : FileAnswer} → Reason l a → 8 ≤ numberOf a → numberOf a ≤ 11 → fileAnswer (contentsTests l (length l)) ≡ a
@@ -65,7 +66,7 @@ module _ (l : List ℕ) where
         | no other ↦ sym (in-front-refused (contentsTests l (length l)) bodiesTests (λ d. other (ap numberOf d))) ∙ reason-gives l r
         | yes zero ↦
             let done = number-done (fileAnswer (contentsTests l (length l))) zero in
-            let same = sym (in-front-done (contentsTests l (length l)) bodiesTests done) ∙ reason-gives l r in
+            let same = sym (in-front-done (contentsTests l (length l)) bodiesTests refl done) ∙ reason-gives l r in
             absurd
             (⊎-elim
             (λ d. omega (arith, ap numberOf (sym same ∙ d)))

@@ -8,13 +8,14 @@ use Prim.Native.Nat.{ℕ, zero, suc, _+_, _≤_, _<_}
 use native.Mathlib.Decide.{ℕ-discrete}
 use native.Mathlib.Numerals.{add-one}
 use native.Mathlib.Omega.{arith}
+use lib.Dec.{eqb, leb}
 use lib.ListN.{length}
 use borrow.Author.Tests.{eq-eqb}
 use Rattle.places.specs.Pick.{pick}
 use Rattle.places.specs.Tab.{over}
 use Rattle.contents.specs.declared.FileAnswer.{FileAnswer}
-use Rattle.contents.specs.declared.FileAnswer.the-variants.{Done}
-use Rattle.contents.specs.Answers.{good-runs, true-ranges, a-room, fileAnswer, numberOf, isDone, left}
+use Rattle.contents.specs.declared.FileAnswer.the-variants.{Done, Range, Room, Runs}
+use Rattle.contents.specs.Answers.{fileAnswer, numberOf, isDone, left}
 use Rattle.contents.specs.Contents.{count, countOr, entryOr, contentsTests}
 use Rattle.contents.proofs.Answers.{passed, in-front-done, in-front-refused, left-refused, number-done}
 use Rattle.contents.proofs.First.{first-ext}
@@ -71,7 +72,7 @@ module _ (l front : List ℕ) (held : Front l front) (low high : ℕ) where
     bodies-are =
         ap (chosenAfter (opensBy front low high) front (length l) (bodyOf l)) count-is
         ∙ chosen-bodies l front held (opensBy front low high) done
-        ∙ ap₂ (λ r t. fileAnswer (good-runs r (count l) ∷ true-ranges t (count l) ∷ []))
+        ∙ ap₂ (λ r t. fileAnswer ((eqb r (count l), Runs r) ∷ (eqb t (count l), Range t) ∷ []))
         (first-ext (count l) (λ i. pick (opensBy front low high i) (goodIn l i) true) (λ i. pick (opens l low high i) (goodIn l i) true)
         (λ i h. ap (λ t. pick t (goodIn l i) true) (same-opens i h)))
         (first-ext (count l) (λ i. pick (opensBy front low high i) (hasTrueRange l i) true) (λ i. pick (opens l low high i) (hasTrueRange l i) true)
@@ -113,7 +114,7 @@ module _ (l front : List ℕ) (held : Front l front) (low high : ℕ) where
 
     module _ (rows : List ℕ) where
       abbrev room : FileAnswer
-      room = fileAnswer (a-room (length (found l low high)) (length rows) ∷ [])
+      room = fileAnswer ((leb (length (found l low high)) (length rows), Room) ∷ [])
 
       -- behind the opened blocks the room decides
       behind : left (fileAnswer (openedTests l low high)) room (fileAnswer (openedTests l low high)) ≡ fileAnswer (searchTests l low high rows)
@@ -121,15 +122,15 @@ module _ (l front : List ℕ) (held : Front l front) (low high : ℕ) where
           let o = fileAnswer (openedTests l low high) in
           elim (ℕ-discrete (numberOf o) 0) [
             | yes z ↦ let good = number-done o z in
-                ap (λ a. left a room a) good ∙ sym (in-front-done (openedTests l low high) _ good) ∙ sym (in-front-done (contentsTests l (length l)) _ done)
+                ap (λ a. left a room a) good ∙ sym (in-front-done (openedTests l low high) _ refl good) ∙ sym (in-front-done (contentsTests l (length l)) _ refl done)
             | no n ↦ left-refused o room o n
                 ∙ sym (in-front-refused (openedTests l low high) _ (λ d. n (ap numberOf d)))
-                ∙ sym (in-front-done (contentsTests l (length l)) _ done)
+                ∙ sym (in-front-done (contentsTests l (length l)) _ refl done)
           ]
 
       answer-is : answerBy front (length l) (bodyOf l) low high rows ≡ fileAnswer (searchTests l low high rows)
       unfolding answerBy
-      answer-is = ap₂ (λ a r. left a (fileAnswer (a-room (length r) (length rows) ∷ [])) a) bodies-are rows-are ∙ behind
+      answer-is = ap₂ (λ a r. left a (fileAnswer ((leb (length r) (length rows), Room) ∷ [])) a) bodies-are rows-are ∙ behind
 
       right-found : searchedBy front (length l) (bodyOf l) low high rows ≡ foundOf l low high rows
       unfolding searchedBy foundOf
@@ -153,7 +154,7 @@ module _ (l front : List ℕ) (held : Front l front) (low high : ℕ) where
     answer-stays : answerBy front (length l) (bodyOf l) low high rows ≡ refusal
     unfolding answerBy
     answer-stays =
-        ap (λ a. left a (fileAnswer (a-room (length (rowsBy front (bodyOf l) low high)) (length rows) ∷ [])) a)
+        ap (λ a. left a (fileAnswer ((leb (length (rowsBy front (bodyOf l) low high)) (length rows), Room) ∷ [])) a)
         (chosen-refused l front held (opensBy front low high) refused (countOr front))
         ∙ left-refused refusal _ refusal n
 

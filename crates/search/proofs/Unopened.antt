@@ -7,13 +7,14 @@ use mathlib.Core.Path.{_≡_, refl, sym, ap, ap₂, _∙_}
 use Prim.Native.Nat.{ℕ, zero, suc, _+_, _*_, _/_, _%_, _≤_, _<_}
 use native.Mathlib.Decide.{ℕ-discrete}
 use native.Mathlib.Omega.{arith}
-use lib.Dec.{eqb}
+use lib.Dec.{eqb, leb}
 use lib.ListN.{length, getD}
 use borrow.Author.Tests.{ne-eqb}
 use Rattle.places.specs.Pick.{pick, both, either}
 use Rattle.places.specs.Tab.{over}
 use Rattle.little.specs.Little.{little}
-use Rattle.contents.specs.Answers.{good-runs, true-ranges, enough, an-edition, laid-out, an-end, a-room, fileAnswer, isDone, left}
+use Rattle.contents.specs.declared.FileAnswer.the-variants.{BadEntry, Cut, Edition, Over, Range, Room, Runs}
+use Rattle.contents.specs.Answers.{fileAnswer, isDone, left}
 use Rattle.contents.specs.Contents.{edition, count, contentsSize, entryAt, entryOf, rangeAt, rangeOf, anyRange, isLaidOut, isTakenIn, isOrdered, isRight, badEntry, bodiesSize, bodyStart, contentsTests}
 use Rattle.contents.specs.First.{firstBad}
 use Rattle.contents.proofs.First.{first-ext}
@@ -109,12 +110,12 @@ module _ (l m : List ℕ) (low high : ℕ) (same : SameOpened l m low high) wher
   -- So they have the same tests of the contents,
   contents-same : contentsTests m (length m) ≡ contentsTests l (length l)
   contents-same j =
-      enough 4 (same .size j)
-      ∷ an-edition (edition-same j) (count-same j)
-      ∷ enough (contentsSize (edition-same j) (count-same j)) (same .size j)
-      ∷ laid-out (bad-same j) (count-same j)
-      ∷ enough (end-same j) (same .size j)
-      ∷ an-end (end-same j) (same .size j)
+      (leb 4 (same .size j), Cut)
+      ∷ (both (either (eqb (edition-same j) 1) (eqb (edition-same j) 2)) (leb (count-same j) 256), Edition)
+      ∷ (leb (contentsSize (edition-same j) (count-same j)) (same .size j), Cut)
+      ∷ (eqb (bad-same j) (count-same j), BadEntry (bad-same j))
+      ∷ (leb (end-same j) (same .size j), Cut)
+      ∷ (leb (same .size j) (end-same j), Over)
       ∷ []
 
   -- the same opened blocks, which are alike,
@@ -174,7 +175,7 @@ module _ (l m : List ℕ) (low high : ℕ) (same : SameOpened l m low high) wher
     answer-same j =
         fileAnswer
         (contents-same j
-        ++ ((good-runs (runs-same j) (count-same j) ∷ true-ranges (ranges-same j) (count-same j) ∷ []) ++ (a-room (length (found-same j)) (length rows) ∷ [])))
+        ++ (((eqb (runs-same j) (count-same j), Runs (runs-same j)) ∷ (eqb (ranges-same j) (count-same j), Range (ranges-same j)) ∷ []) ++ ((leb (length (found-same j)) (length rows), Room) ∷ [])))
 
     pub unopened-answer : foundOf m low high rows ≡ foundOf l low high rows
     unfolding foundOf

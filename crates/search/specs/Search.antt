@@ -9,9 +9,9 @@ use lib.ListN.{length}
 use Rattle.places.specs.Pick.{pick, both, either}
 use Rattle.places.specs.Tab.{over}
 use Rattle.contents.specs.declared.FileAnswer.{FileAnswer}
-use Rattle.contents.specs.declared.FileAnswer.the-variants.{Done}
+use Rattle.contents.specs.declared.FileAnswer.the-variants.{Done, Range as FalseRange, Room, Runs}
 use Rattle.contents.specs.declared.Range.{Range}
-use Rattle.contents.specs.Answers.{FileTest, good-runs, true-ranges, a-room, fileAnswer, isDone, left}
+use Rattle.contents.specs.Answers.{FileTest, fileAnswer, isDone, left}
 use Rattle.contents.specs.Contents.{edition, count, entryOf, rangeOf, contentsTests}
 use Rattle.contents.specs.First.{firstBad}
 use Rattle.bodies.specs.Bodies.{hasGoodRuns}
@@ -54,12 +54,15 @@ badRangeIn l low high = firstBad (count l) (λ i. pick (opens l low high i) (has
 
 -- The tests of the blocks that are opened are that of their run indices and that of their ranges.
 abbrev pub openedTests : (l : List ℕ) (low high : ℕ) → List FileTest
-openedTests l low high = good-runs (badRunsIn l low high) (count l) ∷ true-ranges (badRangeIn l low high) (count l) ∷ []
+openedTests l low high =
+    (eqb (badRunsIn l low high) (count l), Runs (badRunsIn l low high))
+    ∷ (eqb (badRangeIn l low high) (count l), FalseRange (badRangeIn l low high))
+    ∷ []
 
 -- The search makes the tests of the contents as the reader does, then those of the blocks that it opens, and then wants room for the rows.
 abbrev pub searchTests : (l : List ℕ) (low high : ℕ) (rows : List ℕ) → List FileTest
 searchTests l low high rows =
-    contentsTests l (length l) ++ (openedTests l low high ++ (a-room (length (found l low high)) (length rows) ∷ []))
+    contentsTests l (length l) ++ (openedTests l low high ++ ((leb (length (found l low high)) (length rows), Room) ∷ []))
 
 -- It gives how many rows it lists and how many blocks it opened, or the refusal,
 unfoldable pub foundOf : (l : List ℕ) (low high : ℕ) (rows : List ℕ) → Found

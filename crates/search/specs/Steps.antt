@@ -6,12 +6,14 @@
 use mathlib.Core.Bool.{Bool}
 use mathlib.Core.List.{List, [], _∷_, _++_}
 use Prim.Native.Nat.{ℕ, zero, suc, _*_, _-_}
-use lib.Dec.{eqb}
+use lib.Dec.{eqb, leb, ltb}
 use lib.ListN.{length, getD}
+use Rattle.places.specs.Takes.{long}
 use Rattle.places.specs.Pick.{pick, either}
 use Rattle.places.specs.Tab.{over}
+use Rattle.contents.specs.declared.FileAnswer.the-variants.{Beyond, Block, Room}
 use Rattle.contents.specs.declared.FileAnswer.{FileAnswer}
-use Rattle.contents.specs.Answers.{FileTest, a-block, a-number, a-room, fileAnswer, isDone, left}
+use Rattle.contents.specs.Answers.{FileTest, fileAnswer, isDone, left}
 use Rattle.contents.specs.Contents.{editionOr, countOr, entryOr, rangeOr}
 use Rattle.bodies.specs.Bodies.{blockOf}
 use Rattle.files.specs.Chosen.{chosenAfter}
@@ -39,7 +41,11 @@ rowsIn block i low high = foundIn block (i * 1024) low high
 
 -- The rows of one block are listed where it is 1,024 long, it has a number that a block of a file can have, and there is room for them.
 abbrev pub listedTests : (block : List ℕ) (i low high : ℕ) (rows : List ℕ) → List FileTest
-listedTests block i low high rows = a-block block ∷ a-number i 256 ∷ a-room (length (rowsIn block i low high)) (length rows) ∷ []
+listedTests block i low high rows =
+    (long 1024 block, Block)
+    ∷ (ltb i 256, Beyond)
+    ∷ (leb (length (rowsIn block i low high)) (length rows), Room)
+    ∷ []
 
 -- The call gives how many rows it lists, of one block, or the refusal,
 unfoldable pub listedOf : (block : List ℕ) (i low high : ℕ) (rows : List ℕ) → Found
@@ -67,7 +73,7 @@ rowsBy front bodies low high = rowsAfter front bodies low high (countOr front)
 unfoldable pub answerBy : (front : List ℕ) (size : ℕ) (bodies : ℕ → List ℕ) (low high : ℕ) (rows : List ℕ) → FileAnswer
 answerBy front size bodies low high rows =
     left (chosenAfter (opensBy front low high) front size bodies (countOr front))
-    (fileAnswer (a-room (length (rowsBy front bodies low high)) (length rows) ∷ []))
+    (fileAnswer ((leb (length (rowsBy front bodies low high)) (length rows), Room) ∷ []))
     (chosenAfter (opensBy front low high) front size bodies (countOr front))
 
 -- So the steps give how many rows they list and how many blocks they opened, or the refusal,

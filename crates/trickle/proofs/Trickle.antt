@@ -4,7 +4,7 @@
 -- state in a program the prover knows it.
 -- Assumes nothing.
 use mathlib.Core.Bool.{false}
-use mathlib.Core.List.{List, [], _∷_, _++_}
+use mathlib.Core.List.{List, [], _++_}
 use mathlib.Core.Logic.{_↔_, _⊎_, ⊎-elim}
 use mathlib.Core.Path.{_≡_, sym, ap, ap₂, subst, _∙_}
 use Prim.Native.Nat.{ℕ, _+_, _-_, _*_, _≤_, _<_, min}
@@ -26,9 +26,9 @@ use Rattle.little.proofs.Little.{length-numbers}
 use Rattle.trickle.specs.declared.State.{State}
 use Rattle.trickle.specs.declared.TrickleAnswer.{TrickleAnswer}
 use Rattle.trickle.specs.declared.TrickleAnswer.the-variants.{Done, Width, Early}
-use Rattle.trickle.specs.Answers.{a-block, all-there, trickleAnswer, numberOf, left}
+use Rattle.trickle.specs.Answers.{trickleAnswer, numberOf, left}
 use Rattle.trickle.specs.Plain.{Reason, no-block, early, whole, wide, overfull}
-use Rattle.trickle.specs.Trickle.{bodySize, canBe, widthOf, countOf, heldOf, countsAs, startAnswer, startedOf, takenOf, stateAfter, fedOf, askAnswer, wordsOf, valuesOf, askLeaves, fedAll, bytesOfAll, Same}
+use Rattle.trickle.specs.Trickle.{bodySize, canBe, widthOf, countOf, heldOf, countsAs, startAnswer, startedOf, takenOf, stateAfter, fedOf, askTests, askAnswer, wordsOf, valuesOf, askLeaves, fedAll, bytesOfAll, Same}
 use Rattle.trickle.proofs.Answers.{start-wide, start-done, ask-block, ask-early, ask-done, left-refused}
 use Rattle.trickle.proofs.Feeds.{after-nothing, after-held, after-width, all-taken, all-after, all-long}
 use Rattle.trickle.proofs.States.{counted, length-held, itself, counts-twice, too-many, cannot-be, cannot-width}
@@ -130,7 +130,7 @@ module _ (a b : State) (la : length (a .room) ≡ 8192) (lb : length (b .room) �
   -- and by ask.
   pub same-answer : (output : List ℕ) → askAnswer a output ≡ askAnswer b output
   unfolding askAnswer
-  same-answer output = ap₂ (λ w n. trickleAnswer (a-block output ∷ all-there (bodySize w) n ∷ [])) (same .width) same-count
+  same-answer output = ap₂ (λ w n. trickleAnswer (askTests output (bodySize w) n)) (same .width) same-count
 
   pub same-leaves : (output : List ℕ) → askLeaves a output ≡ askLeaves b output
   unfolding askLeaves valuesOf wordsOf
@@ -156,7 +156,7 @@ module _ (s : State) where
   -- and by ask.
   pub counts-answer : (output : List ℕ) → askAnswer (countsAs s) output ≡ askAnswer s output
   unfolding askAnswer
-  counts-answer output = ap (λ c. trickleAnswer (a-block output ∷ all-there (bodySize (c .width)) (c .held) ∷ [])) (counts-twice s)
+  counts-answer output = ap (λ c. trickleAnswer (askTests output (bodySize (c .width)) (c .held))) (counts-twice s)
 
   pub counts-leaves : (output : List ℕ) → askLeaves (countsAs s) output ≡ askLeaves s output
   unfolding askLeaves valuesOf wordsOf heldOf

@@ -1,13 +1,12 @@
--- What the calls on a body that trickles in answer (document 02, Item 10): the numbers and places, the tests that are made, and what a call leaves
--- in a lent buffer. The tests of a call stand in a list, in the order of the item.
+-- What the calls on a body that trickles in answer (document 02, Item 10): the numbers and places, the answer by a list of tests, and what a
+-- call leaves in a lent buffer. The tests of each call stand beside it, in the order of the item.
 -- Assumes nothing.
 use mathlib.Core.Bool.{Bool}
 use mathlib.Core.List.{List}
 use Prim.Native.Nat.{ℕ}
-use lib.Dec.{eqb, leb}
-use Rattle.places.specs.Answers.{firstRefusal}
+use lib.Dec.{eqb}
+use Rattle.places.specs.Answers.{Test, firstRefusal}
 use Rattle.places.specs.Pick.{pick}
-use Rattle.places.specs.Takes.{long}
 use Rattle.trickle.specs.declared.TrickleAnswer.{TrickleAnswer}
 use Rattle.trickle.specs.declared.TrickleAnswer.the-variants.{Done, Width, Block, Early}
 
@@ -25,30 +24,9 @@ placeOf Width = 0
 placeOf Block = 0
 placeOf (Early p) = p
 
--- These are the things that are tested.
-pub data TrickleTest : Type 0 where
-  -- The width is at most 64.
-  a-width : (width : ℕ) → TrickleTest
-  -- The output is a block, 1,024 long.
-  a-block : (output : List ℕ) → TrickleTest
-  -- As many bytes are held as are needed.
-  all-there : (needed held : ℕ) → TrickleTest
-
--- This is the test itself.
-abbrev pub passes : TrickleTest → Bool
-passes (a-width width) = leb width 64
-passes (a-block output) = long 1024 output
-passes (all-there needed held) = leb needed held
-
--- This is the refusal where it fails.
-abbrev pub refusal : TrickleTest → TrickleAnswer
-refusal (a-width width) = Width
-refusal (a-block output) = Block
-refusal (all-there needed held) = Early held
-
 -- A call that makes these tests answers with the first refusal of the list, and where every test passes it is done.
-unfoldable pub trickleAnswer : List TrickleTest → TrickleAnswer
-trickleAnswer tests = firstRefusal passes refusal Done tests
+unfoldable pub trickleAnswer : List (Test TrickleAnswer) → TrickleAnswer
+trickleAnswer tests = firstRefusal Done tests
 
 -- This test says that the call is done, which is number 0.
 abbrev pub isDone : TrickleAnswer → Bool

@@ -6,16 +6,19 @@ use mathlib.Core.Path.{_≡_}
 use Prim.Native.Nat.{ℕ, _+_, _-_, _*_, min}
 use lib.Dec.{leb}
 use lib.ListN.{length, take, replicate}
+use Rattle.places.specs.Answers.{Test}
 use Rattle.places.specs.Pick.{pick, both}
 use Rattle.places.specs.Sizes.{t64, lanes}
 use Rattle.places.specs.Tab.{over}
+use Rattle.places.specs.Takes.{long}
 use Rattle.packing.specs.Packed.{unpackOf}
 use Rattle.little.specs.Little.{numbersOf}
 use Rattle.trickle.specs.declared.State.{State}
 use Rattle.trickle.specs.declared.Started.{Started}
 use Rattle.trickle.specs.declared.Fed.{Fed}
 use Rattle.trickle.specs.declared.TrickleAnswer.{TrickleAnswer}
-use Rattle.trickle.specs.Answers.{a-width, a-block, all-there, trickleAnswer, left}
+use Rattle.trickle.specs.declared.TrickleAnswer.the-variants.{Width, Block, Early}
+use Rattle.trickle.specs.Answers.{trickleAnswer, left}
 
 -- A body of width w has so many bytes.
 abbrev pub bodySize : (w : ℕ) → ℕ
@@ -25,7 +28,7 @@ bodySize w = 128 * w
 
 -- A start tests the width.
 abbrev pub startAnswer : (w : ℕ) → TrickleAnswer
-startAnswer w = trickleAnswer (a-width w ∷ [])
+startAnswer w = trickleAnswer ((leb w 64, Width) ∷ [])
 
 -- It gives the state of that width with nothing held, and where it is refused that of width 0. All the room holds zeros.
 unfoldable pub startedOf : (w : ℕ) → Started
@@ -77,9 +80,13 @@ fedOf s chunk = record { taken = takenOf s chunk; state = stateAfter s chunk }
 
 -- ---- ask
 
--- Ask tests its output, and whether the bytes of the body are all there: at width 0 there are none to wait for.
+-- Ask tests its output, and whether the bytes of the body are all there. Where they are not, it says how many are held.
+abbrev pub askTests : (output : List ℕ) (needed held : ℕ) → List (Test TrickleAnswer)
+askTests output needed held = (long 1024 output, Block) ∷ (leb needed held, Early held) ∷ []
+
+-- At width 0 there are none to wait for.
 unfoldable pub askAnswer : (s : State) (output : List ℕ) → TrickleAnswer
-askAnswer s output = trickleAnswer (a-block output ∷ all-there (bodySize (widthOf s)) (countOf s) ∷ [])
+askAnswer s output = trickleAnswer (askTests output (bodySize (widthOf s)) (countOf s))
 
 -- The words of the body are the numbers of eight bytes each that the bytes held make, LANES for each bit of the width.
 unfoldable pub wordsOf : (s : State) → List ℕ

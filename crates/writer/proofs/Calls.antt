@@ -10,7 +10,7 @@ use Rattle.places.specs.Pick.{pick, both}
 use Rattle.places.specs.Tab.{over}
 use Rattle.contents.specs.declared.FileAnswer.{FileAnswer}
 use Rattle.contents.specs.declared.FileAnswer.the-variants.{Done, Block, Room}
-use Rattle.contents.specs.Answers.{a-room, fileAnswer, isDone, left}
+use Rattle.contents.specs.Answers.{fileAnswer, isDone, left}
 use Rattle.contents.proofs.Answers.{passed, stopped, none-left}
 use Rattle.writer.specs.declared.Written.the-variants.{Length, Refused}
 use Rattle.writer.specs.Writer.{fileOf, writeTests, writtenOf, fileLeaves}
@@ -42,7 +42,7 @@ module _ (values output : List ℕ) where
     refused-many many = by-answer Block (over-many many)
 
     module _ (few : length values ≤ 262144) where
-      blocks : fileAnswer (writeTests values output) ≡ fileAnswer (a-room (length (fileOf values)) (length output) ∷ [])
+      blocks : fileAnswer (writeTests values output) ≡ fileAnswer ((leb (length (fileOf values)) (length output), Room) ∷ [])
       blocks = passed _ _ (ap₂ both (eq-eqb (length values % 1024) 0 whole) (le-leb (length values) 262144 few))
 
       -- 14: the output is shorter than the file.

@@ -204,7 +204,7 @@ module _ (values : List ℕ) (n : ℕ) (whole : length values ≡ n * 1024) (few
 
   pub file-accepted : fileAnswer (fileTests (fileOf values)) ≡ Done
   file-accepted =
-      done-both (contentsTests file (length file)) _ (accepts file (length file) contents-right)
+      done-both (contentsTests file (length file)) _ refl (accepts file (length file) contents-right)
       (passed _ _ (eq-eqb (badRuns file) (count file) runs-passed) ∙ passed _ _ (eq-eqb (badRange file) (count file) ranges-passed) ∙ none-left)
 
   -- and the rows are the numbers.

@@ -1,14 +1,15 @@
 -- The column file that stands for a list of numbers, and what the writer answers and leaves (document 02, Items 3 and 9).
 -- Assumes nothing.
 use mathlib.Core.List.{List, [], _∷_, _++_}
-use Prim.Native.Nat.{ℕ, _/_}
+use Prim.Native.Nat.{ℕ, _/_, _%_}
+use lib.Dec.{eqb, leb}
 use lib.ListN.{length}
 use Rattle.places.specs.Parts.{cut, joined}
-use Rattle.places.specs.Pick.{pick}
+use Rattle.places.specs.Pick.{pick, both}
 use Rattle.places.specs.Tab.{over}
 use Rattle.contents.specs.declared.FileAnswer.{FileAnswer}
-use Rattle.contents.specs.declared.FileAnswer.the-variants.{Done}
-use Rattle.contents.specs.Answers.{FileTest, whole-blocks, a-room, fileAnswer, isDone, left}
+use Rattle.contents.specs.declared.FileAnswer.the-variants.{Done, Block, Room}
+use Rattle.contents.specs.Answers.{FileTest, fileAnswer, isDone, left}
 use Rattle.contents.specs.Bytes.{headBytes, entryBytes}
 use Rattle.bodies.specs.Ranges.{trueRange}
 use Rattle.candidates.specs.Candidates.{chosen, bodyFor}
@@ -37,7 +38,10 @@ fileOf values = headBytes (blockCount values) ++ entriesFor values (blockCount v
 
 -- Writing takes whole blocks, at most 256 of them, and an output with room for the file itself.
 abbrev pub writeTests : (values output : List ℕ) → List FileTest
-writeTests values output = whole-blocks (length values) ∷ a-room (length (fileOf values)) (length output) ∷ []
+writeTests values output =
+    (both (eqb (length values % 1024) 0) (leb (length values) 262144), Block)
+    ∷ (leb (length (fileOf values)) (length output), Room)
+    ∷ []
 
 -- It gives the file's length, or the refusal,
 unfoldable pub writtenOf : (values output : List ℕ) → Written

@@ -7,7 +7,8 @@ use native.Mathlib.Omega.{arith}
 use denote.Ref.{now}
 use borrow.Author.Needs.{needs}
 use Rattle.places.specs.Pick.{pick}
-use Rattle.contents.specs.Answers.{good-runs, fileAnswer}
+use Rattle.contents.specs.declared.FileAnswer.the-variants.{Runs}
+use Rattle.contents.specs.Answers.{fileAnswer}
 use Rattle.contents.proofs.Laid.{laid-differences, laid-runs, laid-kind}
 use Rattle.bodies.proofs.Bodies.{laid-plain, block-differences, block-runs, other-done, runs-runs}
 use Rattle.bodies.proofs.lay_down.Statement.{statement}
@@ -69,7 +70,7 @@ returns-2 c =
     let body = now (args .body) in
     let runs = sym (runs-runs e body (arm .match .keys2)) in
     let block = sym (block-runs e body (arm .match .keys2)) in (
-      out .runs-out .ensures .0 ∙ ap (λ b. fileAnswer (good-runs (pick b 1 0) 1 ∷ [])) runs,
+      out .runs-out .ensures .0 ∙ ap (λ b. fileAnswer ((b, Runs 0) ∷ [])) runs,
       out .runs-out .ensures .1 ∙ ap₂ (λ b l. pick b l (now (args .output))) runs block,
     )
 

@@ -5,10 +5,10 @@ use mathlib.Core.Path.{ap, ap₂, _∙_}
 use denote.Ref.{now}
 use borrow.Author.Needs.{needs}
 use Rattle.places.specs.Answers.{isDone}
-use Rattle.places.specs.Pick.{pick}
 use Rattle.places.specs.Takes.{answerFor}
 use Rattle.runs.specs.Calls.{decodeTakes, decodeLeaves}
-use Rattle.contents.specs.Answers.{good-runs, fileAnswer}
+use Rattle.contents.specs.declared.FileAnswer.the-variants.{Runs}
+use Rattle.contents.specs.Answers.{fileAnswer}
 use Rattle.bodies.proofs.Bodies.{runs-taken, runs-left}
 use Rattle.bodies.proofs.runs_through.Statement.{statement}
 use Rattle.bodies.proofs.runs_through.Tie as tie
@@ -57,7 +57,7 @@ returns c =
     let pre = start .pre in
     let read = ap₂ (λ v x. decodeTakes v x output) (words .read-words .ensures) (pairs .read-pairs .ensures) in
     let taken = ap isDone (out .decode .ensures .0 ∙ ap answerFor read) ∙ runs-taken body indices values output (pre .0) (pre .1 .0) (pre .1 .1) in (
-      c .runs-answer .ensures ∙ ap (λ b. fileAnswer (good-runs (pick b 1 0) 1 ∷ [])) taken,
+      c .runs-answer .ensures ∙ ap (λ b. fileAnswer ((b, Runs 0) ∷ [])) taken,
       out .decode .ensures .1
           ∙ ap₂ (λ v x. decodeLeaves v x output) (words .read-words .ensures) (pairs .read-pairs .ensures)
           ∙ runs-left body indices values output (pre .0) (pre .1 .0) (pre .1 .1),

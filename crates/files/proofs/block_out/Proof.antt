@@ -32,7 +32,7 @@ count-is c =
 
 returns : tie.Need-returns
 unfolding blockLeaves
-returns c = rw (bad-output (fileTests (now (c .before .before .before .args .file))) _ (count (now (c .before .before .before .args .file))) _ (c .if1 .taken)) (refl, refl)
+returns c = rw (bad-output (now (c .before .before .before .args .file)) _ _ (c .if1 .taken)) (refl, refl)
 
 check-for-requires : tie.Need-check-for-requires
 check-for-requires c κs = search needs
@@ -48,7 +48,7 @@ returns-2 c =
     let l = now (start .args .file) in
     let refused : numberOf (asked .check-for .result) ≡ 0 → ⊥ = λ e. c .if2 .taken (c .before .number .ensures ∙ e) in
     let file = asked .check-for .ensures .0 refused in
-    let bad = block-refused (fileTests l) (start .args .b) (count l) (now (start .args .output)) (omega arith) (λ e. refused (ap numberOf file ∙ e)) in
+    let bad = block-refused l (start .args .b) (now (start .args .output)) (omega arith) (λ e. refused (ap numberOf file ∙ e)) in
     (file ∙ sym bad, sym (left-refused (fileAnswer (blockTests l (start .args .b) (now (start .args .output)))) (blockIn l (start .args .b)) (now (start .args .output)) (λ e. refused (ap numberOf (file ∙ sym bad) ∙ e))))
 
 count-requires : tie.Need-count-requires
@@ -63,7 +63,7 @@ returns-3 c =
     let others = rest (at .before) in
     let high : count l ≤ start .args .b = omega (arith, count-is at, c .if3 .taken) in
     let done = file-done l (start .args .b) (others .0) (others .1 .0) (others .1 .1) (λ h. absurd (omega arith)) in
-    rw (block-beyond (fileTests l) (start .args .b) (count l) (now (start .args .output)) (omega arith) done high) (refl, refl)
+    rw (block-beyond l (start .args .b) (now (start .args .output)) (omega arith) done high) (refl, refl)
 
 lay-down-requires : tie.Need-lay-down-requires
 lay-down-requires c κs =

@@ -5,11 +5,12 @@ use mathlib.Core.Path.{_≡_, refl, sym, ap, _∙_}
 use Prim.Native.Nat.{_<_}
 use native.Mathlib.Omega.{arith}
 use denote.Ref.{now}
+use lib.Dec.{eqb}
 use lib.ListN.{length}
 use borrow.Author.Needs.{needs}
 use borrow.Author.Tests.{not-true, not-false}
-use Rattle.contents.specs.declared.FileAnswer.the-variants.{Done}
-use Rattle.contents.specs.Answers.{good-runs, fileAnswer, numberOf}
+use Rattle.contents.specs.declared.FileAnswer.the-variants.{Done, Runs}
+use Rattle.contents.specs.Answers.{fileAnswer, numberOf}
 use Rattle.contents.specs.Contents.{count, contentsTests}
 use Rattle.contents.proofs.Answers.{in-front-refused, number-done}
 use Rattle.files.specs.Files.{badRuns}
@@ -41,7 +42,7 @@ returns c =
     let asked = c .before .before in
     let l = now (asked .before .before .args .file) in
     let refused : numberOf (asked .check .result) ≡ 0 → ⊥ = λ e. c .if1 .taken (c .before .number .ensures ∙ e) in (
-      (λ _. asked .check .ensures ∙ sym (in-front-refused (contentsTests l (length l)) (good-runs (badRuns l) (count l) ∷ []) (λ d. refused (ap numberOf (asked .check .ensures ∙ d))))),
+      (λ _. asked .check .ensures ∙ sym (in-front-refused (contentsTests l (length l)) ((eqb (badRuns l) (count l), Runs (badRuns l)) ∷ []) (λ d. refused (ap numberOf (asked .check .ensures ∙ d))))),
       ((λ z. absurd (refused z)), (λ z. absurd (refused z))),
     )
 

@@ -16,7 +16,7 @@ use Rattle.contents.specs.Answers.{numberOf, fileAnswer}
 use Rattle.contents.specs.Contents.{count, entryOf, contentsTests}
 use Rattle.bodies.proofs.Bodies.{other-runs}
 use Rattle.files.specs.declared.Row.the-variants.{Counted, Uncounted, Refused}
-use Rattle.files.specs.Files.{bodyOf, badRange, fileTests, rowAt}
+use Rattle.files.specs.Files.{bodyOf, badRange, rowAt}
 use Rattle.files.specs.Rows.{given, rowOf}
 use Rattle.files.proofs.Calls.{block-refused, block-beyond, file-done, row-as-block, row-refused, row-decides}
 use Rattle.bodywise.proofs.Told.{count-read, entry-read}
@@ -74,7 +74,7 @@ returns c =
     let p = start .args .p in
     let refused : numberOf (asked .check-for .result) ≡ 0 → ⊥ = λ e. c .if1 .taken (c .before .number .ensures ∙ e) in
     let file = asked .check-for .ensures .0 refused in
-    let bad = row-as-block l p zeros refl ∙ block-refused (fileTests l) (p / 1024) (count l) zeros refl (λ e. refused (ap numberOf file ∙ e)) in
+    let bad = row-as-block l p zeros refl ∙ block-refused l (p / 1024) zeros refl (λ e. refused (ap numberOf file ∙ e)) in
     sym (row-refused l p _ (bad ∙ sym file) refused)
 
 count-requires : tie.Need-count-requires
@@ -89,7 +89,7 @@ returns-2 c =
     let others = rest (at .before) in
     let high : count l ≤ p / 1024 = omega (arith, count-is at, c .if2 .taken) in
     let done = file-done l (p / 1024) (others .0) (others .1 .0) (others .1 .1) (λ h. absurd (omega arith)) in
-    sym (row-refused l p Beyond (row-as-block l p zeros refl ∙ block-beyond (fileTests l) (p / 1024) (count l) zeros refl done high) (λ e. omega arith))
+    sym (row-refused l p Beyond (row-as-block l p zeros refl ∙ block-beyond l (p / 1024) zeros refl done high) (λ e. omega arith))
 
 entry-or-requires : tie.Need-entry-or-requires
 entry-or-requires c κs = search needs
