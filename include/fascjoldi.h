@@ -377,8 +377,8 @@ size_t fascjoldi_trickle_ask(size_t width, size_t held, const uint8_t room[8192]
    file's buffer *part, and lend the bytes that were read with the next call.
    FASCJOLDI_WISH_WRITE: write the first *length bytes of the output.
    FASCJOLDI_WISH_DONE: nothing more; the bytes of all writes are the list.
-   What a wish does not name is 0 there. The output is written by a call that wishes for a write, and by no other. bindings/c/changes.c
-   is a program that does all this. */
+   What a wish does not name is 0 there. The output is written by a call that wishes for a write, and by no other. The program
+   bindings/c/changes.c does all this. */
 
 /* Begins the list for files of these sizes in bytes, and gives the first wish. */
 size_t fascjoldi_listing_start(size_t left_size, size_t right_size, uint64_t state[8], size_t *side, size_t *part, size_t *start,
