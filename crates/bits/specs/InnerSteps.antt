@@ -52,14 +52,18 @@ turnsOf start step b = tab 16 (λ k. turnOf (gatherOf (bytesOf b) (start k) step
 unfoldable pub groupStart : (t g : ℕ) → ℕ
 groupStart t g = g % (lanes t / 8) * t + order ((g - g % (lanes t / 8)) / 2)
 
--- Then byte i of group g becomes byte 16·i + g: word w gathers byte w / 2 of eight groups.
-unfoldable pub scatterStart : ℕ → ℕ
-scatterStart w = w % 2 * 64 + w / 2
+-- The groups are laid out by a walk in rounds of d words, which goes on by `near` bytes from word to word and by `far` from round to round.
+unfoldable pub roundStart : (d near far w : ℕ) → ℕ
+roundStart d near far w = w % d * near + w / d * far
+
+-- So byte i of group g becomes byte 16·i + g: word w gathers byte w / 2 of eight groups.
+abbrev pub scatterStart : ℕ → ℕ
+scatterStart = roundStart 2 64 1
 
 -- The untranspose first gathers the bytes that belong to byte g mod 8 of the words of eight lanes, those from 8·(g / 8) on.
 unfoldable pub unscatterStart : ℕ → ℕ
 unscatterStart g = order (g % 8) * 2 + g / 8
 
 -- Then word w, which is lane w, gathers byte w mod 8 of eight groups.
-unfoldable pub ungroupStart : ℕ → ℕ
-ungroupStart w = w / 8 * 64 + w % 8
+abbrev pub ungroupStart : ℕ → ℕ
+ungroupStart = roundStart 8 1 64

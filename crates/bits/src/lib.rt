@@ -15,11 +15,11 @@ pub mod t8;
 
 use places::order;
 ghost use mathlib.Core.Path.{_≡_};
-ghost use Prim.Native.Nat.{ℕ, _+_, _*_, _^_, _≤_, _<_};
+ghost use Prim.Native.Nat.{ℕ, _+_, _-_, _*_, _/_, _^_, _≤_, _<_};
 ghost use lib.ListN.{length};
 ghost use Rattle.places.specs.Tab.{tab, over};
 ghost use Rattle.bits.specs.Bits.{untransposeBitsOf, bitOf};
-ghost use Rattle.bits.specs.InnerSteps.{bytesOf, gatherOf, exchangeOf, turnOf, gathersOf, turnsOf, scatterStart, unscatterStart, ungroupStart, byteOf};
+ghost use Rattle.bits.specs.InnerSteps.{bytesOf, gatherOf, exchangeOf, turnOf, gathersOf, turnsOf, roundStart, scatterStart, unscatterStart, ungroupStart, byteOf};
 
 // Bit p of a block is bit p mod 64 of number p / 64, lowest first.
 pub type BitBlock = [u64; 16];
@@ -104,14 +104,7 @@ fn wide(x: u8) -> u64
 fn scatter(groups: BitBlock) -> BitBlock
     ensures { λ r. ⌜ r ≡ gathersOf scatterStart 8 groups ⌝ }
 {
-    let bytes = bytes_of(groups);
-    let mut out: BitBlock = [0; 16];
-    let mut w = 0;
-    while w < 16 {
-        out[w] = gather(&bytes, w % 2 * 64 + w / 2, 8);
-        w += 1;
-    }
-    out
+    lay_out(groups, 2, 64, 1)
 }
 
 // Takes up the groups again, for T 64: group g has the eight bytes that belong to byte g mod 8 of the words of eight
@@ -133,11 +126,21 @@ fn unscatter(block: BitBlock) -> BitBlock
 fn ungroup(groups: BitBlock) -> BitBlock
     ensures { λ r. ⌜ r ≡ gathersOf ungroupStart 8 groups ⌝ }
 {
+    lay_out(groups, 8, 1, 64)
+}
+
+// Lays out groups by a walk in rounds of `turns` words: word w gathers one byte of each of eight groups, from byte
+// w mod turns · near + w / turns · far on.
+fn lay_out(groups: BitBlock, turns: usize, near: usize, far: usize) -> BitBlock
+    requires { ⌜ 0 < turns ⌝ }
+    requires { ⌜ (turns - 1) * near + 15 / turns * far + 7 * 8 < 128 ⌝ }
+    ensures { λ r. ⌜ r ≡ gathersOf (roundStart turns near far) 8 groups ⌝ }
+{
     let bytes = bytes_of(groups);
     let mut out: BitBlock = [0; 16];
     let mut w = 0;
     while w < 16 {
-        out[w] = gather(&bytes, w / 8 * 64 + w % 8, 8);
+        out[w] = gather(&bytes, w % turns * near + w / turns * far, 8);
         w += 1;
     }
     out

@@ -1,14 +1,11 @@
 -- The tests of two entries and of two lists say that they are the same.
 -- Assumes nothing.
-use mathlib.Core.Bool.{true, false}
+use mathlib.Core.Bool.{Bool, true, false}
 use mathlib.Core.List.{List, [], _∷_}
 use mathlib.Core.Logic.{_↔_}
 use mathlib.Core.Path.{_≡_, refl, sym, ap, ap₂, _∙_}
-use Prim.Native.Nat.{ℕ, _≤_, _<_}
-use native.Mathlib.Omega.{arith}
+use Prim.Native.Nat.{ℕ}
 use lib.Dec.{eqb}
-use lib.ListN.{length, getD, take, length-take}
-use lib.Seq.{ext-getD, getD-take}
 use borrow.Author.Tests.{eq-eqb, eqb-true}
 use Rattle.places.specs.Pick.{both}
 use Rattle.places.proofs.Tests.{both-true, not-then, false-true}
@@ -51,22 +48,7 @@ same-list (x ∷ a) (y ∷ b) e = let t = both-true (eqb x y) (isSame a b) e in 
 pub list-same : (a b : List ℕ) → (isSame a b ≡ true) ↔ (a ≡ b)
 list-same a b = (same-list a b, λ e. ap (isSame a) (sym e) ∙ same-self a)
 
--- Two lists that differ at a place are not the same.
-pub list-differs : (a b : List ℕ) (i : ℕ) → (getD a i 0 ≡ getD b i 0 → ⊥) → isSame a b ≡ false
-list-differs a b i n = not-then (isSame a b) (λ e. n (ap (λ l. getD l i 0) (same-list a b e)))
-
-pub length-differs : (a b : List ℕ) → (length a ≡ length b → ⊥) → isSame a b ≡ false
-length-differs a b n = not-then (isSame a b) (λ e. n (ap length (same-list a b e)))
-
--- The front of b is a: where b is too short it is not, nor where they differ at a place of a, and else it is.
-module _ (a b : List ℕ) where
-  pub front-short : length b < length a → isSame a (take (length a) b) ≡ false
-  front-short h = length-differs a (take (length a) b) (λ e. absurd (omega (arith, length-take (length a) b)))
-
-  pub front-differs : (i : ℕ) → i < length a → (getD a i 0 ≡ getD b i 0 → ⊥) → isSame a (take (length a) b) ≡ false
-  front-differs i h n = list-differs a (take (length a) b) i (λ e. n (e ∙ getD-take (length a) b i 0 h))
-
-  pub front-same : length a ≤ length b → ((i : ℕ) → i < length a → getD a i 0 ≡ getD b i 0) → isSame a (take (length a) b) ≡ true
-  front-same h all =
-      list-same a (take (length a) b) .1
-      (ext-getD 0 a (take (length a) b) (omega (arith, length-take (length a) b)) (λ i g. all i g ∙ sym (getD-take (length a) b i 0 g)))
+-- An answer that is yes exactly where two lists are the same is that of this test.
+pub same-test : (t : Bool) (a b : List ℕ) → (t ≡ true → a ≡ b) × (a ≡ b → t ≡ true) → t ≡ isSame a b
+same-test true a b e = sym (list-same a b .1 (e .0 refl))
+same-test false a b e = sym (not-then (isSame a b) (λ s. false-true (e .1 (same-list a b s))))

@@ -12,12 +12,11 @@ use files::block_from;
 use files::body_from;
 ghost use mathlib.Core.Path.{_≡_};
 ghost use Prim.Native.Nat.{_<_};
-ghost use lib.ListN.{length, take};
 ghost use Rattle.contents.specs.declared.FileAnswer.the-variants.{Done};
 ghost use Rattle.contents.specs.Answers.{fileAnswer};
 ghost use Rattle.contents.specs.Contents.{count as countIn, bodyStart};
 ghost use Rattle.files.specs.Files.{fileTests};
-ghost use Rattle.canonical.specs.Canonical.{isSameEntry, isSame, isOurs, foreign, canonicalTests};
+ghost use Rattle.canonical.specs.Canonical.{isSameEntry, isOurs, foreign, canonicalTests};
 
 // Checks that the file is what our writer would give for its rows.
 pub fn check(file: &[u8]) -> FileAnswer
@@ -68,7 +67,10 @@ fn is_ours(file: &[u8], i: usize, at: usize) -> bool
     if !same_entry(entry_or(file, i), ours) {
         return false;
     }
-    same_front(body_from(file, i, at), &body)
+    let theirs = body_from(file, i, at);
+    let n = ours.length as usize;
+    let mine = &body[..n];
+    check::same(theirs, mine)
 }
 
 // Whether two entries are the same. The tests are joined by `&`, which makes no branch.
@@ -78,21 +80,4 @@ fn same_entry(a: Entry, b: Entry) -> bool
     (a.kind == b.kind)
         & ((a.width == b.width)
             & ((a.zero == b.zero) & ((a.length == b.length) & (a.reference == b.reference))))
-}
-
-// Whether the front of b is a; no list is the front of a shorter one.
-fn same_front(a: &[u8], b: &[u8]) -> bool
-    ensures { λ r. ⌜ r ≡ isSame (now (a .entry)) (take (length (now (a .entry))) (now (b .entry))) ⌝ }
-{
-    if b.len() < a.len() {
-        return false;
-    }
-    let mut i = 0;
-    while i < a.len() {
-        if a[i] != b[i] {
-            return false;
-        }
-        i += 1;
-    }
-    true
 }

@@ -3,29 +3,26 @@
 use mathlib.Core.List.{List, [], _∷_}
 use mathlib.Core.Path.{_≡_, refl, sym, ap, _∙_}
 use Prim.Native.Nat.{ℕ, _≤_, _<_}
-use borrow.Author.Tests.{ne-eqb, le-leb, lt-leb}
+use borrow.Author.Tests.{le-leb, lt-leb}
 use lib.Dec.{leb}
 use lib.ListN.{length}
-use Rattle.places.specs.Pick.{pick}
 use Rattle.places.specs.Tab.{over}
 use Rattle.contents.specs.declared.FileAnswer.{FileAnswer}
 use Rattle.contents.specs.declared.FileAnswer.the-variants.{Done, Room}
-use Rattle.contents.specs.Answers.{fileAnswer, numberOf, isDone, left}
-use Rattle.contents.proofs.Answers.{passed, stopped, none-left, in-front-done, in-front-refused, left-refused}
+use Rattle.contents.specs.Answers.{fileAnswer, numberOf}
+use Rattle.contents.proofs.Answers.{passed, stopped, none-left, in-front-done, in-front-refused}
 use Rattle.files.specs.Files.{fileTests}
 use Rattle.writer.specs.declared.Written.the-variants.{Length, Refused}
+use Rattle.writer.specs.Writer.{givenBy, leftBy}
+use Rattle.writer.proofs.Outcomes.{given-refused, outcome}
 use Rattle.rewrite.specs.Rewrite.{newFile, rewriteTests, rewrittenOf, rewriteLeaves}
 
 module _ (l output : List ℕ) where
   -- An answer decides what is given and left.
   by-answer : (a : FileAnswer) → fileAnswer (rewriteTests l output) ≡ a
-      → (pick (isDone a) (Length (length (newFile l))) (Refused a) ≡ rewrittenOf l output)
-      × (left a (over 0 (newFile l) output) output ≡ rewriteLeaves l output)
+      → (givenBy a (newFile l) ≡ rewrittenOf l output) × (leftBy a (newFile l) output ≡ rewriteLeaves l output)
   unfolding rewrittenOf rewriteLeaves
-  by-answer a e = (
-    sym (ap (λ x. pick (isDone x) (Length (length (newFile l))) (Refused x)) e),
-    sym (ap (λ x. left x (over 0 (newFile l) output) output) e),
-  )
+  by-answer a e = (sym (ap (λ x. givenBy x (newFile l)) e), sym (ap (λ x. leftBy x (newFile l) output) e))
 
   -- The reader's refusals come first.
   pub bad-file : (a : FileAnswer) → fileAnswer (fileTests l) ≡ a → (numberOf a ≡ 0 → ⊥) → fileAnswer (rewriteTests l output) ≡ a
@@ -34,8 +31,8 @@ module _ (l output : List ℕ) where
   pub refused-file : (a : FileAnswer) → fileAnswer (fileTests l) ≡ a → (numberOf a ≡ 0 → ⊥) → (Refused a ≡ rewrittenOf l output) × (output ≡ rewriteLeaves l output)
   refused-file a e bad =
       let by = by-answer a (bad-file a e bad) in (
-        sym (ap (λ b. pick b (Length (length (newFile l))) (Refused a)) (ne-eqb (numberOf a) 0 bad)) ∙ by .0,
-        sym (left-refused a (over 0 (newFile l) output) output bad) ∙ by .1,
+        sym (given-refused a (newFile l) bad) ∙ by .0,
+        sym (outcome a (newFile l) output .refused bad) ∙ by .1,
       )
 
   module _ (done : fileAnswer (fileTests l) ≡ Done) where

@@ -8,30 +8,26 @@ use mathlib.Core.Path.{_≡_, refl, sym, ap, _∙_, subst}
 use Prim.Native.Nat.{ℕ, _≤_, _<_}
 use native.Mathlib.Decide.{decLe, ℕ-discrete}
 use native.Mathlib.Omega.{arith}
-use borrow.Author.Tests.{ne-eqb}
-use lib.ListN.{length, take, drop}
+use lib.ListN.{length, take}
 use Rattle.places.specs.Numbers.{Elements}
-use Rattle.places.specs.Pick.{pick}
 use Rattle.places.specs.Sizes.{t64}
-use Rattle.places.specs.Tab.{over}
-use Rattle.places.proofs.Overs.{over-front, over-rest}
 use Rattle.places.proofs.Tabs.{is-tab}
 use Rattle.contents.specs.declared.FileAnswer.{FileAnswer}
 use Rattle.contents.specs.declared.FileAnswer.the-variants.{Done, Room}
-use Rattle.contents.specs.Answers.{fileAnswer, numberOf, isDone, left}
+use Rattle.contents.specs.Answers.{fileAnswer, numberOf}
 use Rattle.contents.specs.Contents.{edition, count, entryOf}
-use Rattle.contents.proofs.Answers.{left-refused, number-done, says-answer}
+use Rattle.contents.proofs.Answers.{number-done}
 use Rattle.candidates.specs.Candidates.{chosen}
 use Rattle.candidates.proofs.Choice.{chosen-kind}
 use Rattle.files.specs.Files.{blockIn, rowsOf, fileTests}
 use Rattle.files.specs.Plain.{Reason}
 use Rattle.files.proofs.Reasons.{reason-gives, file-exactly}
 use Rattle.files.proofs.Rows as Rows
-use Rattle.writer.specs.declared.Written.the-variants.{Length, Refused}
 use Rattle.writer.specs.Plain.{Blocks}
-use Rattle.writer.specs.Writer.{fileOf, writeTests, writtenOf, fileLeaves, answerOf, lengthOf}
+use Rattle.writer.specs.Writer.{fileOf, givenBy, leftBy, writeTests, writtenOf, fileLeaves}
 use Rattle.writer.proofs.Calls.{blocks-short, blocks-room}
 use Rattle.writer.proofs.Item3 as Item3
+use Rattle.writer.proofs.Outcomes.{Outcome, outcome}
 use Rattle.writer.proofs.ReadBack.{edition-is, count-is, entry-read, file-accepted, rows-read}
 use Rattle.rewrite.specs.Plain.{RewriteReason, of-file, short-output, room-there}
 use Rattle.rewrite.specs.Rewrite.{newFile, rewriteTests, rewrittenOf, rewriteLeaves}
@@ -61,51 +57,21 @@ module _ (l output : List ℕ) where
   pub rewrite-exactly : (a : FileAnswer) → (fileAnswer (rewriteTests l output) ≡ a) ↔ RewriteReason l output a
   rewrite-exactly a = ((λ e. subst (RewriteReason l output) (sym (gives (reason .1)) ∙ e) (reason .1)), gives)
 
-  -- What the call gives back says that answer,
-  pub rewrite-answers : answerOf (rewrittenOf l output) ≡ fileAnswer (rewriteTests l output)
-  unfolding rewrittenOf
-  rewrite-answers = says-answer answerOf (Length (length (newFile l))) Refused refl (λ a. refl) (fileAnswer (rewriteTests l output))
+  -- What the call gives back says that answer, and it is done or refused as a write is.
+  pub rewrite-outcome : Outcome (fileAnswer (rewriteTests l output)) (newFile l) output (rewrittenOf l output) (rewriteLeaves l output)
+  unfolding rewrittenOf rewriteLeaves
+  rewrite-outcome = outcome (fileAnswer (rewriteTests l output)) (newFile l) output
 
-  -- and a length of 0 where it is refused.
-  pub rewrite-no-length : (numberOf (fileAnswer (rewriteTests l output)) ≡ 0 → ⊥) → lengthOf (rewrittenOf l output) ≡ 0
-  unfolding rewrittenOf
-  rewrite-no-length bad =
-      ap (λ b. lengthOf (pick b (Length (length (newFile l))) (Refused (fileAnswer (rewriteTests l output)))))
-      (ne-eqb (numberOf (fileAnswer (rewriteTests l output))) 0 bad)
-
-  -- A refused call leaves the output as it was.
-  pub rewrite-refused : (numberOf (fileAnswer (rewriteTests l output)) ≡ 0 → ⊥) → rewriteLeaves l output ≡ output
-  unfolding rewriteLeaves
-  rewrite-refused bad = left-refused (fileAnswer (rewriteTests l output)) (over 0 (newFile l) output) output bad
-
-  module _ (done : fileAnswer (rewriteTests l output) ≡ Done) where
-    over-new : rewriteLeaves l output ≡ over 0 (newFile l) output
-    unfolding rewriteLeaves
-    over-new = ap (λ a. left a (over 0 (newFile l) output) output) done
-
-    -- A call that is done gives the new file's length,
-    pub rewrite-length : lengthOf (rewrittenOf l output) ≡ length (newFile l)
-    unfolding rewrittenOf
-    rewrite-length = ap (λ a. lengthOf (pick (isDone a) (Length (length (newFile l))) (Refused a))) done
-
-    -- leaves the new file at the front,
-    pub rewrite-front : take (length (newFile l)) (rewriteLeaves l output) ≡ newFile l
-    rewrite-front = ap (take (length (newFile l))) over-new ∙ over-front (newFile l) output
-
-    -- and behind it the bytes that were there.
-    pub rewrite-behind : drop (length (newFile l)) (rewriteLeaves l output) ≡ drop (length (newFile l)) output
-    rewrite-behind = ap (drop (length (newFile l))) over-new ∙ over-rest (newFile l) output
-
-    -- A file that is its own new file is left at the front as it is.
-    pub rewrite-keeps : newFile l ≡ l → take (length l) (rewriteLeaves l output) ≡ l
-    rewrite-keeps same = subst (λ f. take (length f) (rewriteLeaves l output) ≡ f) same rewrite-front
+  -- A file that is its own new file is left at the front as it is.
+  pub rewrite-keeps : fileAnswer (rewriteTests l output) ≡ Done → newFile l ≡ l → take (length l) (rewriteLeaves l output) ≡ l
+  rewrite-keeps done same = subst (λ f. take (length f) (rewriteLeaves l output) ≡ f) same (rewrite-outcome .front done)
 
   -- Of an accepted file the outcome is that of a write of its rows.
   pub rewrite-writes : fileAnswer (fileTests l) ≡ Done
       → (rewrittenOf l output ≡ writtenOf (rowsOf l) output) × (rewriteLeaves l output ≡ fileLeaves (rowsOf l) output)
   unfolding rewrittenOf rewriteLeaves writtenOf fileLeaves
   rewrite-writes done =
-      (ap (λ a. pick (isDone a) (Length (length (newFile l))) (Refused a)) same, ap (λ a. left a (over 0 (newFile l) output) output) same)
+      (ap (λ a. givenBy a (newFile l)) same, ap (λ a. leftBy a (newFile l) output) same)
     where
       whole : Blocks (rowsOf l)
       whole = rows-whole l done

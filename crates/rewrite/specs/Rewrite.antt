@@ -4,14 +4,11 @@ use mathlib.Core.List.{List, [], _∷_, _++_}
 use Prim.Native.Nat.{ℕ}
 use lib.Dec.{leb}
 use lib.ListN.{length}
-use Rattle.places.specs.Pick.{pick}
-use Rattle.places.specs.Tab.{over}
 use Rattle.contents.specs.declared.FileAnswer.the-variants.{Room}
-use Rattle.contents.specs.Answers.{FileTest, fileAnswer, isDone, left}
+use Rattle.contents.specs.Answers.{FileTest, fileAnswer}
 use Rattle.files.specs.Files.{rowsOf, fileTests}
 use Rattle.writer.specs.declared.Written.{Written}
-use Rattle.writer.specs.declared.Written.the-variants.{Length, Refused}
-use Rattle.writer.specs.Writer.{fileOf}
+use Rattle.writer.specs.Writer.{fileOf, givenBy, leftBy}
 
 -- The new file is the one that the writer gives for the rows of the old one.
 abbrev pub newFile : (l : List ℕ) → List ℕ
@@ -23,9 +20,8 @@ rewriteTests l output = fileTests l ++ ((leb (length (newFile l)) (length output
 
 -- The call gives the new file's length, or the refusal,
 unfoldable pub rewrittenOf : (l output : List ℕ) → Written
-rewrittenOf l output =
-    pick (isDone (fileAnswer (rewriteTests l output))) (Length (length (newFile l))) (Refused (fileAnswer (rewriteTests l output)))
+rewrittenOf l output = givenBy (fileAnswer (rewriteTests l output)) (newFile l)
 
 -- and leaves the new file at the front of the output; the bytes behind it stay.
 unfoldable pub rewriteLeaves : (l output : List ℕ) → List ℕ
-rewriteLeaves l output = left (fileAnswer (rewriteTests l output)) (over 0 (newFile l) output) output
+rewriteLeaves l output = leftBy (fileAnswer (rewriteTests l output)) (newFile l) output

@@ -6,25 +6,21 @@ use Prim.Native.Nat.{ℕ, _%_, _≤_, _<_}
 use borrow.Author.Tests.{eq-eqb, ne-eqb, le-leb, lt-leb}
 use lib.Dec.{leb}
 use lib.ListN.{length}
-use Rattle.places.specs.Pick.{pick, both}
+use Rattle.places.specs.Pick.{both}
 use Rattle.places.specs.Tab.{over}
 use Rattle.contents.specs.declared.FileAnswer.{FileAnswer}
 use Rattle.contents.specs.declared.FileAnswer.the-variants.{Done, Block, Room}
-use Rattle.contents.specs.Answers.{fileAnswer, isDone, left}
+use Rattle.contents.specs.Answers.{fileAnswer}
 use Rattle.contents.proofs.Answers.{passed, stopped, none-left}
 use Rattle.writer.specs.declared.Written.the-variants.{Length, Refused}
-use Rattle.writer.specs.Writer.{fileOf, writeTests, writtenOf, fileLeaves}
+use Rattle.writer.specs.Writer.{fileOf, givenBy, leftBy, writeTests, writtenOf, fileLeaves}
 
 module _ (values output : List ℕ) where
   -- An answer decides what is given and left.
   by-answer : (a : FileAnswer) → fileAnswer (writeTests values output) ≡ a
-      → (pick (isDone a) (Length (length (fileOf values))) (Refused a) ≡ writtenOf values output)
-      × (left a (over 0 (fileOf values) output) output ≡ fileLeaves values output)
+      → (givenBy a (fileOf values) ≡ writtenOf values output) × (leftBy a (fileOf values) output ≡ fileLeaves values output)
   unfolding writtenOf fileLeaves
-  by-answer a e = (
-    sym (ap (λ x. pick (isDone x) (Length (length (fileOf values))) (Refused x)) e),
-    sym (ap (λ x. left x (over 0 (fileOf values) output) output) e),
-  )
+  by-answer a e = (sym (ap (λ x. givenBy x (fileOf values)) e), sym (ap (λ x. leftBy x (fileOf values) output) e))
 
   -- 2: the numbers are no whole blocks,
   pub not-whole : (length values % 1024 ≡ 0 → ⊥) → fileAnswer (writeTests values output) ≡ Block

@@ -8,25 +8,21 @@ use mathlib.Core.Path.{_≡_, refl, sym, ap, _∙_, subst}
 use Prim.Native.Nat.{ℕ, _+_, _*_, _%_, _≤_, _<_}
 use native.Mathlib.Decide.{decLe, ℕ-discrete}
 use native.Mathlib.Omega.{arith}
-use borrow.Author.Tests.{ne-eqb}
-use lib.ListN.{length, getD, take, drop}
+use lib.ListN.{length, getD, take}
 use Rattle.places.specs.Numbers.{minus, Elements}
 use Rattle.places.specs.Parts.{cut, joined}
 use Rattle.places.specs.Places.{place, lane, row, order}
-use Rattle.places.specs.Pick.{pick}
 use Rattle.places.specs.Sizes.{t64, lanes}
-use Rattle.places.specs.Tab.{tab, tabFrom, over}
-use Rattle.places.proofs.Overs.{over-front, over-rest}
+use Rattle.places.specs.Tab.{tab, tabFrom}
 use Rattle.places.proofs.Parts.{length-cut, cut-elements}
 use Rattle.little.specs.Little.{bytesOf, allBytes}
 use Rattle.contents.specs.declared.Entry.{Entry}
 use Rattle.contents.specs.declared.FileAnswer.{FileAnswer}
 use Rattle.contents.specs.declared.FileAnswer.the-variants.{Done, Block, Beyond, Room}
-use Rattle.contents.specs.Answers.{fileAnswer, numberOf, isDone, left}
+use Rattle.contents.specs.Answers.{fileAnswer, left}
 use Rattle.contents.specs.Bytes.{headBytes, firstBytes, rangeBytes, entryBytes}
 use Rattle.contents.specs.Contents.{count, entryOf, rangeOf}
 use Rattle.contents.specs.First.{firstBad, firstFrom}
-use Rattle.contents.proofs.Answers.{left-refused, says-answer}
 use Rattle.bodies.specs.Bodies.{blockOf, wordsFrom}
 use Rattle.bodies.specs.Ranges.{lowestOf, trueRange}
 use Rattle.candidates.specs.Candidates.{plainAt, frameAt, stepsAt, shorter, chosen, bodyFor, baseOf}
@@ -45,11 +41,11 @@ use Rattle.files.specs.Plain.{Reason, block-there, no-block, row-there, no-row}
 use Rattle.files.specs.Rows.{rowOf, valueOf, answerOf as rowAnswer}
 use Rattle.files.proofs.Reasons.{file-exactly, block-exactly, row-exactly}
 use Rattle.files.proofs.Rows.{row-place, row-answers, row-values}
-use Rattle.writer.specs.declared.Written.the-variants.{Length, Refused}
 use Rattle.writer.specs.Plain.{Blocks, WriteReason, no-blocks, short-output, room-there}
-use Rattle.writer.specs.Writer.{blockCount, blockAt, entriesFor, bodiesFor, fileOf, writeTests, writtenOf, fileLeaves, answerOf, lengthOf}
+use Rattle.writer.specs.Writer.{blockCount, blockAt, entriesFor, bodiesFor, fileOf, writeTests, writtenOf, fileLeaves, lengthOf}
 use Rattle.writer.proofs.Calls.{not-whole, over-many, blocks-short, blocks-room}
 use Rattle.writer.proofs.Laying.{file-short}
+use Rattle.writer.proofs.Outcomes.{Outcome, outcome}
 use Rattle.writer.proofs.ReadBack.{count-is, entry-read, range-read, block-read, file-accepted, rows-read}
 
 -- What a call of write lays down: so many bytes of its output as it says.
@@ -99,40 +95,14 @@ module _ (values output : List ℕ) where
   pub write-exactly : (a : FileAnswer) → (fileAnswer (writeTests values output) ≡ a) ↔ WriteReason values output a
   write-exactly a = ((λ e. subst (WriteReason values output) (sym (gives (reason .1)) ∙ e) (reason .1)), gives)
 
-  -- What the call gives back says that answer,
-  pub write-answers : answerOf (writtenOf values output) ≡ fileAnswer (writeTests values output)
-  unfolding writtenOf
-  write-answers = says-answer answerOf (Length (length (fileOf values))) Refused refl (λ a. refl) (fileAnswer (writeTests values output))
-
-  -- and a length of 0 where it is refused.
-  pub write-no-length : (numberOf (fileAnswer (writeTests values output)) ≡ 0 → ⊥) → lengthOf (writtenOf values output) ≡ 0
-  unfolding writtenOf
-  write-no-length bad =
-      ap (λ b. lengthOf (pick b (Length (length (fileOf values))) (Refused (fileAnswer (writeTests values output)))))
-      (ne-eqb (numberOf (fileAnswer (writeTests values output))) 0 bad)
-
-  -- A refused call leaves the output as it was.
-  pub write-refused : (numberOf (fileAnswer (writeTests values output)) ≡ 0 → ⊥) → fileLeaves values output ≡ output
-  unfolding fileLeaves
-  write-refused bad = left-refused (fileAnswer (writeTests values output)) (over 0 (fileOf values) output) output bad
+  -- What the call gives back says that answer, and it is done or refused as such a call is.
+  pub write-outcome : Outcome (fileAnswer (writeTests values output)) (fileOf values) output (writtenOf values output) (fileLeaves values output)
+  unfolding writtenOf fileLeaves
+  write-outcome = outcome (fileAnswer (writeTests values output)) (fileOf values) output
 
   module _ (done : fileAnswer (writeTests values output) ≡ Done) where
-    over-file : fileLeaves values output ≡ over 0 (fileOf values) output
-    unfolding fileLeaves
-    over-file = ap (λ a. left a (over 0 (fileOf values) output) output) done
-
-    -- A call that is done gives the file's length,
-    pub write-length : lengthOf (writtenOf values output) ≡ length (fileOf values)
-    unfolding writtenOf
-    write-length = ap (λ a. lengthOf (pick (isDone a) (Length (length (fileOf values))) (Refused a))) done
-
-    -- leaves the file at the front,
-    pub write-front : take (length (fileOf values)) (fileLeaves values output) ≡ fileOf values
-    write-front = ap (take (length (fileOf values))) over-file ∙ over-front (fileOf values) output
-
-    -- and behind it the bytes that were there.
-    pub write-behind : drop (length (fileOf values)) (fileLeaves values output) ≡ drop (length (fileOf values)) output
-    write-behind = ap (drop (length (fileOf values))) over-file ∙ over-rest (fileOf values) output
+    front : take (length (fileOf values)) (fileLeaves values output) ≡ fileOf values
+    front = write-outcome .front done
 
     write-blocks : Blocks values
     write-blocks = right (write-exactly Done .0 done)
@@ -146,7 +116,7 @@ module _ (values output : List ℕ) where
         × (rowsOf (take (length (fileOf values)) (fileLeaves values output)) ≡ values)
     write-reads fits =
         let b = write-blocks in
-        (ap (λ l. fileAnswer (fileTests l)) write-front ∙ file-accepted values (b .n) (b .whole) (b .few) fits, ap rowsOf write-front ∙ rows-read values (b .n) (b .whole) (b .few) fits)
+        (ap (λ l. fileAnswer (fileTests l)) front ∙ file-accepted values (b .n) (b .whole) (b .few) fits, ap rowsOf front ∙ rows-read values (b .n) (b .whole) (b .few) fits)
 
     -- What the reading calls give on the file, and leave.
     module _ (fits : Elements t64 values) where
@@ -155,7 +125,7 @@ module _ (values output : List ℕ) where
 
       laid-is : laid ≡ fileOf values
       unfolding laid
-      laid-is = ap (λ n. take n (fileLeaves values output)) write-length ∙ write-front
+      laid-is = ap (λ n. take n (fileLeaves values output)) (write-outcome .whole done) ∙ front
 
       laid-count : count laid ≡ blockCount values
       laid-count =
@@ -163,7 +133,7 @@ module _ (values output : List ℕ) where
           ap count laid-is ∙ count-is values (b .n) (b .whole) (b .few) fits ∙ omega (arith, b .whole)
 
       laid-right : Reason laid Done
-      laid-right = file-exactly laid Done .0 (ap (λ l. fileAnswer (fileTests l)) (laid-is ∙ sym write-front) ∙ write-reads fits .0)
+      laid-right = file-exactly laid Done .0 (ap (λ l. fileAnswer (fileTests l)) (laid-is ∙ sym front) ∙ write-reads fits .0)
 
       -- One block out is done, and leaves the numbers of the block,
       pub write-block-out : (i : ℕ) → i < blockCount values → (room : List ℕ) → length room ≡ 1024
@@ -197,7 +167,7 @@ module _ (values output : List ℕ) where
             row-values laid p
                 ∙ ap (λ a. left a (rowAt laid p) 0) done
                 ∙ sym (row-place laid p there)
-                ∙ ap (λ l. getD (rowsOf l) p 0) (laid-is ∙ sym write-front)
+                ∙ ap (λ l. getD (rowsOf l) p 0) (laid-is ∙ sym front)
                 ∙ ap (λ l. getD l p 0) (write-reads fits .1),
           )
 
@@ -209,7 +179,7 @@ module _ (values output : List ℕ) where
 -- The numbers alone decide the bytes: two calls on the same numbers that are done leave the same file.
 pub write-same : (values output output′ : List ℕ) → fileAnswer (writeTests values output) ≡ Done → fileAnswer (writeTests values output′) ≡ Done
     → take (length (fileOf values)) (fileLeaves values output) ≡ take (length (fileOf values)) (fileLeaves values output′)
-write-same values output output′ done done′ = write-front values output done ∙ sym (write-front values output′ done′)
+write-same values output output′ done done′ = write-outcome values output .front done ∙ sym (write-outcome values output′ .front done′)
 
 -- A file has at most 4 + 8224·N bytes.
 pub write-short : (values : List ℕ) → length (fileOf values) ≤ 4 + 8224 * blockCount values

@@ -43,14 +43,21 @@ writeTests values output =
     ∷ (leb (length (fileOf values)) (length output), Room)
     ∷ []
 
--- It gives the file's length, or the refusal,
-unfoldable pub writtenOf : (values output : List ℕ) → Written
-writtenOf values output =
-    pick (isDone (fileAnswer (writeTests values output))) (Length (length (fileOf values))) (Refused (fileAnswer (writeTests values output)))
+-- A call that lays a file down gives the file's length, or the refusal,
+abbrev pub givenBy : (a : FileAnswer) (file : List ℕ) → Written
+givenBy a file = pick (isDone a) (Length (length file)) (Refused a)
 
 -- and leaves the file at the front of the output; the bytes behind it stay.
+abbrev pub leftBy : (a : FileAnswer) (file output : List ℕ) → List ℕ
+leftBy a file output = left a (over 0 file output) output
+
+-- The writer gives this,
+unfoldable pub writtenOf : (values output : List ℕ) → Written
+writtenOf values output = givenBy (fileAnswer (writeTests values output)) (fileOf values)
+
+-- and leaves this.
 unfoldable pub fileLeaves : (values output : List ℕ) → List ℕ
-fileLeaves values output = left (fileAnswer (writeTests values output)) (over 0 (fileOf values) output) output
+fileLeaves values output = leftBy (fileAnswer (writeTests values output)) (fileOf values) output
 
 -- A length stands for an answer that is done, and a refusal for itself.
 abbrev pub answerOf : Written → FileAnswer

@@ -3,7 +3,8 @@
 use mathlib.Core.Path.{_≡_, sym, ap, ap₂, _∙_}
 use native.Mathlib.Omega.{arith}
 use denote.Ref.{now}
-use lib.ListN.{length, take, replicate}
+use lib.ListN.{take, replicate}
+use lib.Seq.{length-take-le}
 use borrow.Author.Needs.{needs}
 use borrow.Author.Tests.{not-true, not-false}
 use Rattle.places.specs.Numbers.{Elements}
@@ -19,11 +20,10 @@ use Rattle.candidates.proofs.Calls.{laid-there}
 use Rattle.candidates.proofs.Choice.{body-sized, chosen-short}
 use Rattle.files.specs.Files.{bodyOf, blockIn}
 use Rattle.bodywise.proofs.Told.{entry-read}
-use Rattle.files.proofs.Files.{body-long}
 use Rattle.files.proofs.Froms.{body-from-is}
 use Rattle.rewrite.proofs.Rows.{right, block-long, block-laid}
 use Rattle.canonical.specs.Canonical.{isSameEntry, isSame, isOurs}
-use Rattle.canonical.proofs.Same.{entry-same}
+use Rattle.canonical.proofs.Same.{same-test}
 use Rattle.canonical.proofs.is_ours.Statement.{statement}
 use Rattle.canonical.proofs.is_ours.Tie as tie
 
@@ -42,16 +42,19 @@ laid-is c =
       c .lay-block .ensures .1 ∙ ap (λ b. layLeaves b (replicate 8192 0)) block ∙ is .1,
     )
 
+-- so this entry is the chosen one's
+ours-is : (c : tie.After-entry) → let start = c .before .before .before .before .before .before .before .before .before in c .entry .result ≡ chosen (blockIn (now (start .args .file)) (start .args .i)) .entry
+ours-is c = c .entry .ensures ∙ ap entryLaid (laid-is (c .before .before) .0)
+
 -- the test of the entries
 tested-is : (c : tie.After-same-entry) → c .same-entry .result ≡ isSameEntry (entryOf (now (c .before .before .before .before .before .before .before .before .before .before .before .args .file)) (c .before .before .before .before .before .before .before .before .before .before .before .args .i)) (chosen (blockIn (now (c .before .before .before .before .before .before .before .before .before .before .before .args .file)) (c .before .before .before .before .before .before .before .before .before .before .before .args .i)) .entry)
 tested-is c =
     let read = c .before in
     let given = read .before in
-    let laid = given .before .before in
-    let start = laid .before .before .before .before .before .before .before in
+    let start = given .before .before .before .before .before .before .before .before .before in
     c .same-entry .ensures
     ∙ ap₂ isSameEntry (read .entry-or .ensures ∙ entry-read (now (start .args .file)) (right (now (start .args .file)) (start .pre .0)) (start .args .i) (start .pre .1 .0))
-    (given .entry .ensures ∙ ap entryLaid (laid-is laid .0))
+    (ours-is given)
 
 slice-aggregate-block-from : tie.Need-slice-aggregate-block-from
 slice-aggregate-block-from c = search needs
@@ -90,32 +93,37 @@ returns c =
 body-from-requires : tie.Need-body-from-requires
 body-from-requires c κs = search needs
 
-slice-aggregate-same-front : tie.Need-slice-aggregate-same-front
-slice-aggregate-same-front c = search needs
+cast-n : tie.Need-cast-n
+cast-n c = search needs
 
-same-front-requires : tie.Need-same-front-requires
-same-front-requires c κs = search needs
+array-share-prefix-body : tie.Need-array-share-prefix-body
+array-share-prefix-body c =
+    let given = c .before .before .before .before .before in
+    let start = given .before .before .before .before .before .before .before .before .before in
+    omega (arith, ap (λ e. e .length) (ours-is given), chosen-short (blockIn (now (start .args .file)) (start .args .i)))
+
+slice-aggregate-mine : tie.Need-slice-aggregate-mine
+slice-aggregate-mine c = sym (length-take-le _ _ (array-share-prefix-body (c .before)))
+
+same-requires : tie.Need-same-requires
+same-requires c κs = search needs
 
 returns-2 : tie.Need-returns-2
 unfolding isOurs
 returns-2 c =
-    let lent = c .before .before in
+    let lent = c .before .before .before in
     let other = lent .before in
     let tested = other .before in
-    let laid = tested .before .before .before .before in
+    let given = tested .before .before in
+    let laid = given .before .before in
     let start = laid .before .before .before .before .before .before .before in
     let l = now (start .args .file) in
     let i = start .args .i in
     let done = start .pre .0 in
-    let h = start .pre .1 .0 in
     let same = sym (tested-is tested) ∙ not-false _ (other .if1 .left) in
-    let entries = entry-same (entryOf l i) (chosen (blockIn l i) .entry) .0 same in
-    let long : length (bodyOf l i) ≡ length (bodyFor (blockIn l i)) =
-    body-long l (right l done) i h ∙ ap (λ e. e .length) entries ∙ sym (body-sized (blockIn l i)) in
-    c .same-front .ensures
-    ∙ ap₂ (λ x y. isSame x (take (length x) y)) (lent .body-from .ensures ∙ body-from-is l (right l done) i h (start .args .at) (start .pre .1 .1)) (laid-is laid .1)
-    ∙ ap (λ n. isSame (bodyOf l i) (take n (over 0 (bodyFor (blockIn l i)) (replicate 8192 0)))) long
-    ∙ ap (isSame (bodyOf l i)) (over-front (bodyFor (blockIn l i)) (replicate 8192 0))
+    same-test _ _ _ (c .same .ensures)
+    ∙ ap₂ isSame (lent .body-from .ensures ∙ body-from-is l (right l done) i (start .pre .1 .0) (start .args .at) (start .pre .1 .1))
+    (ap₂ take (ap (λ e. e .length) (ours-is given) ∙ sym (body-sized (blockIn l i))) (laid-is laid .1) ∙ over-front (bodyFor (blockIn l i)) (replicate 8192 0))
     ∙ sym (ap (λ t. both t (isSame (bodyOf l i) (bodyFor (blockIn l i)))) same)
 
 pub is-ours-spec : {M : Type 1} → statement M
@@ -132,6 +140,8 @@ is-ours-spec =
     same-entry-requires
     returns
     body-from-requires
-    slice-aggregate-same-front
-    same-front-requires
+    cast-n
+    array-share-prefix-body
+    slice-aggregate-mine
+    same-requires
     returns-2)
