@@ -7,8 +7,8 @@ use mathlib.Core.Path.{_≡_, refl, sym, ap, ap₂, _∙_}
 use Prim.Native.Nat.{ℕ}
 use lib.Dec.{eqb}
 use borrow.Author.Tests.{eq-eqb, eqb-true}
-use Rattle.places.specs.Pick.{both}
-use Rattle.places.proofs.Tests.{both-true, not-then, false-true}
+use Rattle.lists.specs.Pick.{both}
+use Rattle.lists.proofs.Tests.{both-true, not-then, false-true}
 use Rattle.contents.specs.declared.Entry.{Entry}
 use Rattle.canonical.specs.Canonical.{isSameEntry, isSame}
 

@@ -7,12 +7,12 @@ use Prim.Native.Nat.{ℕ, zero, suc, _+_, _^_, _≤_, _<_}
 use native.Mathlib.Numerals.{add-one}
 use native.Mathlib.Omega.{arith}
 use lib.ListN.{length, getD}
-use Rattle.places.specs.Numbers.{plus, minus, Elements}
+use Rattle.lists.specs.Numbers.{plus, minus, Elements}
+use Rattle.lists.specs.Tab.{tab, over}
+use Rattle.lists.proofs.Tabs.{getD-tab, tab-ext, tab-getD}
 use Rattle.places.specs.Places.{place, lane, row}
 use Rattle.places.specs.Sizes.{Size, lanes}
-use Rattle.places.specs.Tab.{tab, over}
 use Rattle.places.proofs.Places.{lane-lt, place-lt}
-use Rattle.places.proofs.Tabs.{getD-tab, tab-ext, tab-getD}
 use Rattle.rows.specs.Rows.{splatOf, loadOf, addOf, subOf}
 use Rattle.rows.proofs.Blocks.{rowFrom, rowOf, row-from, Laid, laid-none, laid-next, laid-all}
 use Rattle.rows.proofs.Rows.{load-room, add-tab, sub-tab}

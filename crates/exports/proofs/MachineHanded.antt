@@ -7,7 +7,7 @@ use mathlib.Core.List.{List}
 use Prim.Native.Nat.{ℕ, zero, suc, _≤_, _<_}
 use lib.Dec.{leb}
 use lib.ListN.{length, take}
-use Rattle.places.specs.Pick.{pick}
+use Rattle.lists.specs.Pick.{pick}
 use Rattle.wishes.specs.declared.Side.{Side}
 use Rattle.wishes.specs.declared.Side.the-variants.{Left, Right}
 use Rattle.wishes.specs.declared.Wish.{Wish}

@@ -10,15 +10,15 @@ use native.Mathlib.Omega.{arith}
 use lib.Arith.{digits-div, digits-mod}
 use lib.Bits.{bitOr}
 use lib.ListN.{getD}
+use Rattle.lists.specs.Tab.{tab}
+use Rattle.lists.specs.Numbers.{digit, Elements}
+use Rattle.lists.proofs.Tabs.{tab-ext}
 use Rattle.places.specs.Places.{place}
 use Rattle.places.specs.Sizes.{Size, lanes}
-use Rattle.places.specs.Tab.{tab}
 use Rattle.places.proofs.Places.{size-some}
-use Rattle.places.proofs.Tabs.{tab-ext}
 use Rattle.rows.specs.Rows.{splatOf, shrOf, orShlOf, maskOf}
 use Rattle.rows.proofs.Blocks.{rowFrom, rowOf}
 use Rattle.rows.proofs.Rows.{shr-tab, mask-tab, or-shl-tab}
-use Rattle.places.specs.Numbers.{digit, Elements}
 use Rattle.packing.specs.Packed.{word, part, wordsNumber, valuesNumber, wordAt, valueAt}
 use Rattle.packing.proofs.Rounds.{word-fits, value-place, part-lt}
 use Rattle.packing.proofs.Steps.{held, word-lt, second-lt, filling, read-one, read-two, held-zero, write-on, write-word, write-rest}

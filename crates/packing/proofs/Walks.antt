@@ -17,13 +17,13 @@ use native.Mathlib.Omega.{arith}
 use lib.Arith.{lt-of-le-ne}
 use lib.ListN.{length, getD, take, drop, length-append, length-take}
 use lib.Seq.{take-all, take-at}
-use Rattle.places.specs.Numbers.{Elements}
+use Rattle.lists.specs.Numbers.{Elements}
+use Rattle.lists.specs.Tab.{tab, tabFrom, over}
+use Rattle.lists.proofs.Digits.{digit-number}
+use Rattle.lists.proofs.Tabs.{length-tab, tab-ext, tab-append, length-over}
 use Rattle.places.specs.Places.{place, nextStart}
 use Rattle.places.specs.Sizes.{Size, lanes}
-use Rattle.places.specs.Tab.{tab, tabFrom, over}
-use Rattle.places.proofs.Digits.{digit-number}
 use Rattle.places.proofs.Places.{size-some, place-lt}
-use Rattle.places.proofs.Tabs.{length-tab, tab-ext, tab-append, length-over}
 use Rattle.rows.specs.Rows.{splatOf, shrOf, orShlOf, maskOf}
 use Rattle.rows.proofs.Blocks.{rowFrom, rowOf, Starts, starts-first, starts-next}
 use Rattle.packing.specs.Packed.{word, part, valuesNumber, wordAt, packOf, valueAt}

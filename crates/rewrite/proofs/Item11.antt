@@ -9,9 +9,9 @@ use Prim.Native.Nat.{ℕ, _≤_, _<_}
 use native.Mathlib.Decide.{decLe, ℕ-discrete}
 use native.Mathlib.Omega.{arith}
 use lib.ListN.{length, take}
-use Rattle.places.specs.Numbers.{Elements}
+use Rattle.lists.specs.Numbers.{Elements}
+use Rattle.lists.proofs.Tabs.{is-tab}
 use Rattle.places.specs.Sizes.{t64}
-use Rattle.places.proofs.Tabs.{is-tab}
 use Rattle.contents.specs.declared.FileAnswer.{FileAnswer}
 use Rattle.contents.specs.declared.FileAnswer.the-variants.{Done, Room}
 use Rattle.contents.specs.Answers.{fileAnswer, numberOf}

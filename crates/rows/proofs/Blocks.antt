@@ -10,11 +10,11 @@ use native.Mathlib.Omega.{arith}
 use lib.ListN.{length, getD, take, drop, length-take, length-drop, drop-of-length-le}
 use lib.Seq.{getD-take, getD-drop, drop-drop}
 use borrow.Rule.Slice.PartMut.{putMid}
+use Rattle.lists.specs.Tab.{tab, over}
+use Rattle.lists.proofs.Tabs.{length-tab, getD-tab, tab-ext, is-tab, length-over, getD-over-in, getD-over-before, getD-over-after}
 use Rattle.places.specs.Places.{order, place, lane, row, nextStart}
 use Rattle.places.specs.Sizes.{Size, lanes}
-use Rattle.places.specs.Tab.{tab, over}
 use Rattle.places.proofs.Places.{size-most, lanes-some, place-row-lane, lane-lt, row-lt, row-place, place-lt, place-lane, row-within, start-next}
-use Rattle.places.proofs.Tabs.{length-tab, getD-tab, tab-ext, is-tab, length-over, getD-over-in, getD-over-before, getD-over-after}
 use Rattle.rows.specs.Rows.{loadOf, storeOf}
 use Rattle.rows.proofs.Rows.{load-room, store-room}
 
