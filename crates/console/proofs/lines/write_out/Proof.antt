@@ -1,11 +1,11 @@
--- `console::lines::write_to` writes a part of the buffer.
+-- `console::lines::write_out` writes a part of the buffer.
 -- Assumes nothing.
 use mathlib.Core.Path.{sym}
 use native.Mathlib.Omega.{arith}
 use lib.Seq.{length-take-le}
 use borrow.Author.Needs.{needs}
-use Rattle.console.proofs.lines.write_to.Statement.{statement}
-use Rattle.console.proofs.lines.write_to.Tie as tie
+use Rattle.console.proofs.lines.write_out.Statement.{statement}
+use Rattle.console.proofs.lines.write_out.Tie as tie
 
 slice-aggregate-write-all : tie.Need-slice-aggregate-write-all
 slice-aggregate-write-all c = sym (length-take-le _ _ (omega arith))
@@ -19,6 +19,6 @@ returns c = search needs
 returns-2 : tie.Need-returns-2
 returns-2 c = search needs
 
-pub write-to-spec : {M : Type 1} → statement M
-write-to-spec =
+pub write-out-spec : {M : Type 1} → statement M
+write-out-spec =
     tie.close (tie.spec slice-aggregate-write-all write-all-requires returns returns-2)
