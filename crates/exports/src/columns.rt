@@ -188,8 +188,8 @@ pub extern "C" fn fascjoldi_front_contents_length(front: &[u8]) -> usize
     contents_length(front)
 }
 
-// Gives what the contents say of a block: its kind, its width, the two bytes that are to be 0, the bytes of its body, and its reference. Where
-// they have no such entry the kind is 255 and all else 0.
+// Gives what the contents say of a block: its kind, its width, the two bytes that are to be 0, the bytes of its body,
+// and its reference. Where the front that is lent ends before the end of such an entry the kind is 255 and all else 0.
 #[no_mangle]
 pub extern "C" fn fascjoldi_front_entry(
     front: &[u8],
@@ -205,7 +205,8 @@ pub extern "C" fn fascjoldi_front_entry(
     hand_entry(entry_or(front, block), kind, width, zero, length, reference);
 }
 
-// Gives the smallest and the largest number that the contents say of a block; 0 and 2^64 - 1 where they say none.
+// Gives the smallest and the largest number that the contents say of a block; 0 and 2^64 - 1 where they say none: in an
+// edition that is not 2, and where the front that is lent has no such entry.
 #[no_mangle]
 pub extern "C" fn fascjoldi_front_range(
     front: &[u8],
@@ -264,8 +265,8 @@ pub extern "C" fn fascjoldi_body_check_range(
     hand(check_block(front, block, values), place)
 }
 
-// Gives the first body of a file, by its front: its number, which is 0, where it begins, and how many bytes its entry says. Of a file of no blocks these
-// bytes say nothing.
+// Gives the first body of a file, by its front: its number, which is 0, where it begins, and how many bytes its entry
+// says. The length is 0 where the front that is lent has no such entry, as that of a file of no blocks has none.
 #[no_mangle]
 pub extern "C" fn fascjoldi_body_first(
     front: &[u8],
@@ -278,8 +279,11 @@ pub extern "C" fn fascjoldi_body_first(
     hand_body(first(front), number, start, length);
 }
 
-// Goes on from a body of a file, whose number and beginning are lent, to the body behind it, by the front of the file. Where the contents are right, the number
-// behind the last body is the count of blocks, and the beginning is where the file ends; the bytes say nothing there.
+// Goes on from a body of a file, whose number and beginning are lent, to the body behind it, by the front of the file.
+// Where the contents are right, the number behind the last body is the count of blocks, and the beginning is where the
+// file ends; the length is 0 there, since the front has no such entry. Where more than the front is lent, as the whole
+// file, it is read from what stands behind the front, and says nothing. A body without an entry counts as one of no
+// bytes.
 #[no_mangle]
 pub extern "C" fn fascjoldi_body_next(
     front: &[u8],
@@ -292,7 +296,9 @@ pub extern "C" fn fascjoldi_body_next(
     hand_body(behind(front, *number, *start), number, start, length);
 }
 
-// Says whether a search between two bounds opens a block, by the front of the file: the bodies of the other blocks need not be read.
+// Says whether a search between two bounds opens a block, by the front of the file: the bodies of the other blocks need
+// not be read. In edition 1 every block is opened, and a block that the front has no entry of is where the lower bound
+// is not above the upper one.
 #[no_mangle]
 pub extern "C" fn fascjoldi_search_opens(front: &[u8], block: usize, low: u64, high: u64) -> bool
     ensures { λ r. ⌜ r ≡ opensBy (now (front .entry)) low high block ⌝ }

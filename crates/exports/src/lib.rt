@@ -6,10 +6,12 @@
 // this boundary. The calls on blocks have a module for each element size; what the sizes share stands here.
 pub mod chunks;
 pub mod columns;
+pub mod machine;
 pub mod t16;
 pub mod t32;
 pub mod t64;
 pub mod t8;
+pub mod text;
 
 use access::Afforded;
 use access::Listed;
