@@ -63,6 +63,24 @@ enum fascjoldi_number {
 /* What stands for a count of packed words where there is none. */
 #define FASCJOLDI_NO_COUNT 0xFFFFFFFFFFFFFFFFu
 
+/* The numbers of the wishes of the machine that lists what two files differ in, of the two files and of the buffers of each. */
+enum fascjoldi_wish {
+    FASCJOLDI_WISH_DONE = 0,
+    FASCJOLDI_WISH_READ = 1,
+    FASCJOLDI_WISH_WRITE = 2,
+};
+enum fascjoldi_side {
+    FASCJOLDI_LEFT = 0,
+    FASCJOLDI_RIGHT = 1,
+};
+enum fascjoldi_part {
+    FASCJOLDI_FRONT = 0,
+    FASCJOLDI_BODY = 1,
+};
+#define FASCJOLDI_FRONT_ROOM 8196u
+#define FASCJOLDI_BODY_ROOM 10240u
+#define FASCJOLDI_OUTPUT_ROOM 65536u
+
 /* ---- The calls on blocks, at four element sizes. */
 
 /* Packs 1,024 values at `width` bits each. */
@@ -283,11 +301,12 @@ uint64_t fascjoldi_front_row_count(const uint8_t *front, size_t front_length);
 size_t fascjoldi_front_contents_length(const uint8_t *front, size_t front_length);
 
 /* Gives what the contents say of a block: its kind, its width, the two bytes that are to be 0, the bytes of its body, and its
-   reference. Where they have no such entry the kind is 255 and all else 0. */
+   reference. Where the front that is lent ends before the end of such an entry the kind is 255 and all else 0. */
 void fascjoldi_front_entry(const uint8_t *front, size_t front_length, size_t block, uint8_t *kind, uint8_t *width, uint16_t *zero,
     uint32_t *length, uint64_t *reference);
 
-/* Gives the smallest and the largest number that the contents say of a block; 0 and 2^64 - 1 where they say none. */
+/* Gives the smallest and the largest number that the contents say of a block; 0 and 2^64 - 1 where they say none: in an edition
+   that is not 2, and where the front that is lent has no such entry. */
 void fascjoldi_front_range(const uint8_t *front, size_t front_length, size_t block, uint64_t *smallest, uint64_t *largest);
 
 /* Says whether the fronts of two files say the same of the smallest and the largest number of a block; no where their editions
@@ -309,17 +328,19 @@ size_t fascjoldi_body_block_out(const uint8_t *front, size_t front_length, size_
 size_t fascjoldi_body_check_range(const uint8_t *front, size_t front_length, size_t block, const uint64_t *values,
     size_t values_length, size_t *place);
 
-/* Gives the first body of a file, by its front: its number, which is 0, where it begins, and how many bytes its entry says. Of a
-   file of no blocks these bytes say nothing. */
+/* Gives the first body of a file, by its front: its number, which is 0, where it begins, and how many bytes its entry says. The
+   length is 0 where the front that is lent has no such entry, as that of a file of no blocks has none. */
 void fascjoldi_body_first(const uint8_t *front, size_t front_length, size_t *number, size_t *start, uint32_t *length);
 
 /* Goes on from a body of a file, whose number and beginning are lent, to the body behind it, by the front of the file. Where the
-   contents are right, the number behind the last body is the count of blocks, and the beginning is where the file ends; the bytes
-   say nothing there. */
+   contents are right, the number behind the last body is the count of blocks, and the beginning is where the file ends; the
+   length is 0 there, since the front has no such entry. Where more than the front is lent, as the whole file, it is read from
+   what stands behind the front, and says nothing. A body without an entry counts as one of no bytes. */
 void fascjoldi_body_next(const uint8_t *front, size_t front_length, size_t *number, size_t *start, uint32_t *length);
 
 /* Says whether a search between two bounds opens a block, by the front of the file: the bodies of the other blocks need not be
-   read. */
+   read. In edition 1 every block is opened, and a block that the front has no entry of is where the lower bound is not above the
+   upper one. */
 FASCJOLDI_BOOL fascjoldi_search_opens(const uint8_t *front, size_t front_length, size_t block, uint64_t low, uint64_t high);
 
 /* Lists the rows of a block, whose 1,024 numbers were laid down, that lie between two bounds, both included, and says how many
@@ -346,6 +367,57 @@ size_t fascjoldi_trickle_feed(size_t *width, size_t *held, uint8_t room[8192], c
 /* Lays down the 1,024 values of a state when the bytes of its body are all there. */
 size_t fascjoldi_trickle_ask(size_t width, size_t held, const uint8_t room[8192], uint64_t *output, size_t output_length,
     size_t *place);
+
+/* ---- The calls of the machine that lists what two column files differ in. It reads and writes nothing: each call gives a wish,
+   and the program grants it. The program keeps the state, and lends it to each call as the call before left it; any numbers are a
+   state. It has two buffers for each file, of FASCJOLDI_FRONT_ROOM and FASCJOLDI_BODY_ROOM bytes, and an output of
+   FASCJOLDI_OUTPUT_ROOM. The result says what is wished for:
+   FASCJOLDI_WISH_READ: read *length bytes of the file of *side from *start on, or as many as it has there, to the front of that
+   file's buffer *part, and lend the bytes that were read with the next call.
+   FASCJOLDI_WISH_WRITE: write the first *length bytes of the output.
+   FASCJOLDI_WISH_DONE: nothing more; the bytes of all writes are the list.
+   What a wish does not name is 0 there. */
+
+/* Begins the list for files of these sizes in bytes, and gives the first wish. */
+size_t fascjoldi_listing_start(size_t left_size, size_t right_size, uint64_t state[8], size_t *side, size_t *part, size_t *start,
+    size_t *length);
+
+/* Gives the next wish, after the last one was granted. The four buffers are what the last read into each gave, cut short where
+   the file has fewer bytes, and of no bytes where nothing was read into it yet. The output is lent to each call as the call
+   before left it; one that is shorter than 65,536 bytes ends the list. */
+size_t fascjoldi_listing_next(uint64_t state[8], const uint8_t *left_front, size_t left_front_length, const uint8_t *right_front,
+    size_t right_front_length, const uint8_t *left_body, size_t left_body_length, const uint8_t *right_body,
+    size_t right_body_length, uint8_t *output, size_t output_length, size_t *side, size_t *part, size_t *start, size_t *length);
+
+/* Says after how many wishes every list has ended. */
+size_t fascjoldi_listing_turns(void);
+
+/* ---- Numbers in decimal, and what is said of a block to a person. */
+
+/* Reads a text of decimal digits as a number; zeros at the front are taken. The result is 0 and the value is the number; or it is
+   1 for a text of no bytes, 2 for one with a byte that is no digit, with the lowest such place, or 3 for a number of 2^64 or
+   more, and the value is 0. */
+size_t fascjoldi_decimal_parse(const uint8_t *text, size_t text_length, uint64_t *value, size_t *place);
+
+/* Lays the decimal digits of a number at the front of the output, and gives how many bytes they are, from 1 to 20; 0, and nothing
+   is laid, where they do not fit. */
+size_t fascjoldi_decimal_lay(uint64_t value, uint8_t *output, size_t output_length);
+
+/* Gives what is said of a block, whose numbers were laid down: its kind, its width, the bytes of its body and its reference, as
+   the front of the file says, and the smallest and the largest of the numbers. */
+void fascjoldi_summary_of_block(const uint8_t *front, size_t front_length, size_t block, const uint64_t *values,
+    size_t values_length, uint8_t *kind, uint8_t *width, uint32_t *length, uint64_t *reference, uint64_t *smallest,
+    uint64_t *largest);
+
+/* Says how many thousandths of a byte a row takes, where so many rows take so many bytes, rounded down; 0 for no rows. */
+uint64_t fascjoldi_summary_thousandths(uint32_t bytes, uint32_t rows);
+
+/* Says how many marks the bar of a width has: one for each four bits that are begun. */
+size_t fascjoldi_summary_marks(uint8_t width);
+
+/* Says at which place of a block a row stands: 0 where it stands in a block before it, and 1,024 where it stands in one behind
+   it. */
+size_t fascjoldi_summary_place_in(uint64_t row, size_t block);
 
 #ifdef __cplusplus
 }

@@ -214,6 +214,9 @@ static void walk(void)
     fascjoldi_body_next(nine, 36, &number, &start, &length);
     expect("behind the last body", number, 1);
     expect("the file ends", start, 292);
+    expect("no bytes behind the last body", length, 0);
+    expect("a block without an entry is opened", fascjoldi_search_opens(nine, 36, 1, 10, 100), 1);
+    expect("but not for bounds that are exchanged", fascjoldi_search_opens(nine, 36, 1, 100, 10), 0);
     expect("opened at the upper end", fascjoldi_search_opens(nine, 36, 0, 9, 100), 1);
     expect("not opened above", fascjoldi_search_opens(nine, 36, 0, 10, 100), 0);
     expect("searched", fascjoldi_file_search(nine, 292, 8, 9, listed, 1024, &whole, &opened, &place), FASCJOLDI_DONE);
@@ -392,6 +395,108 @@ static void file_refusals(void)
     expect("width of a refused start", width, 0);
 }
 
+/* Grants the wishes of the machine from memory. What it writes has to be this text. */
+static void expect_list(const char *what, const uint8_t *left, size_t left_size, const uint8_t *right, size_t right_size, const char *text)
+{
+    static uint8_t room[2][2][FASCJOLDI_BODY_ROOM], output[FASCJOLDI_OUTPUT_ROOM], written[256];
+    const uint8_t *const bytes[2] = {left, right};
+    const size_t sizes[2] = {left_size, right_size};
+    size_t held[2][2] = {{0, 0}, {0, 0}}, side = 77, part = 77, start = 77, length = 77, n = 0, turns = 0, expected = 0;
+    uint64_t state[8];
+    size_t wish = fascjoldi_listing_start(left_size, right_size, state, &side, &part, &start, &length);
+    while (wish != FASCJOLDI_WISH_DONE && turns < fascjoldi_listing_turns()) {
+        if (wish == FASCJOLDI_WISH_READ) {
+            size_t there = start < sizes[side] ? sizes[side] - start : 0;
+            held[side][part] = length < there ? length : there;
+            memcpy(room[side][part], bytes[side] + (there ? start : 0), held[side][part]);
+        } else {
+            memcpy(written + n, output, length);
+            n += length;
+        }
+        wish = fascjoldi_listing_next(state, room[0][0], held[0][0], room[1][0], held[1][0], room[0][1], held[0][1], room[1][1],
+            held[1][1], output, sizeof output, &side, &part, &start, &length);
+        turns++;
+    }
+    while (text[expected] != 0) {
+        expected++;
+    }
+    expect(what, n, expected);
+    expect(what, (uint64_t)memcmp(written, text, n < expected ? n : expected), 0);
+    expect(what, wish, FASCJOLDI_WISH_DONE);
+}
+
+/* The machine that lists what two files differ in, on the files of Item 12's example, and on any numbers for its state. */
+static void lists(void)
+{
+    static uint8_t output[FASCJOLDI_OUTPUT_ROOM];
+    uint64_t state[8], any[8] = {99, 98, 97, 96, 95, 94, 93, 92};
+    size_t side = 77, part = 77, start = 77, length = 77;
+    expect("turns", fascjoldi_listing_turns(), 1300);
+    expect("first wish", fascjoldi_listing_start(20, 292, state, &side, &part, &start, &length), FASCJOLDI_WISH_READ);
+    expect("first wish, file", side, FASCJOLDI_LEFT);
+    expect("first wish, buffer", part, FASCJOLDI_FRONT);
+    expect("first wish, start", start, 0);
+    expect("first wish, length", length, 4);
+    expect("second wish", fascjoldi_listing_next(state, sevens1, 4, sevens1, 0, sevens1, 0, sevens1, 0, output, sizeof output, &side,
+        &part, &start, &length), FASCJOLDI_WISH_READ);
+    expect("second wish, length", length, 20);
+    expect("short output", fascjoldi_listing_next(state, sevens1, 20, sevens1, 0, sevens1, 0, sevens1, 0, output, 65535, &side, &part,
+        &start, &length), FASCJOLDI_WISH_DONE);
+    expect("short output, length", length, 0);
+    expect("left body next", fascjoldi_listing_next(state, sevens1, 20, sevens1, 0, sevens1, 0, sevens1, 0, output, sizeof output,
+        &side, &part, &start, &length), FASCJOLDI_WISH_READ);
+    expect("left body next, length", length, 0);
+    expect("any numbers", fascjoldi_listing_next(any, sevens1, 4, sevens1, 0, sevens1, 0, sevens1, 0, output, sizeof output, &side,
+        &part, &start, &length), FASCJOLDI_WISH_DONE);
+    expect("any numbers, stage", any[0], 6);
+    expect("any numbers, side", any[1], 0);
+    expect("any numbers, the last", any[7], 92);
+    expect_list("sevens and nine", sevens1, 20, nine, 292, "3 7 9\ndifferences 1\n");
+    expect_list("nine and sevens", nine, 292, sevens2, 36, "3 9 7\ndifferences 1\n");
+    expect_list("two editions", sevens1, 20, sevens2, 36, "differences 0\n");
+    expect_list("cut short", nine, 292, nine, 291, "refused right 8 0\n");
+    expect_list("both bad", nine, 3, nine, 293, "refused left 8 0\n");
+    expect_list("too long", nine, 292, nine, 293, "refused right 11 0\n");
+}
+
+/* Numbers in decimal, and what is said of the block of that file. */
+static void texts(void)
+{
+    static const uint8_t most[] = "18446744073709551615", more[] = "18446744073709551616", other[] = "12a4";
+    uint8_t output[20], kind = 77, width = 77;
+    uint32_t length = 77;
+    uint64_t value = 77, reference = 77, smallest = 77, largest = 77;
+    place = 77;
+    expect("parsed", fascjoldi_decimal_parse(most, 20, &value, &place), 0);
+    expect("parsed value", value, 18446744073709551615u);
+    expect("parsed place", place, 0);
+    expect("too large", fascjoldi_decimal_parse(more, 20, &value, &place), 3);
+    expect("too large, value", value, 0);
+    expect("no text", fascjoldi_decimal_parse(most, 0, &value, &place), 1);
+    expect("no digit", fascjoldi_decimal_parse(other, 4, &value, &place), 2);
+    expect("no digit, place", place, 2);
+    memset(output, 77, sizeof output);
+    expect("laid", fascjoldi_decimal_lay(1204, output, 20), 4);
+    expect("laid digits", (uint64_t)memcmp(output, "1204", 4), 0);
+    expect_bytes("behind the digits", output + 4, 16, 77);
+    expect("no room for digits", fascjoldi_decimal_lay(120488, output, 5), 0);
+    expect("all digits", fascjoldi_decimal_lay(18446744073709551615u, output, 20), 20);
+    expect("the digits", (uint64_t)memcmp(output, most, 20), 0);
+    fascjoldi_summary_of_block(nine, 36, 0, out64, 1024, &kind, &width, &length, &reference, &smallest, &largest);
+    expect("summary, kind", kind, 1);
+    expect("summary, width", width, 2);
+    expect("summary, bytes", length, 256);
+    expect("summary, reference", reference, 7);
+    expect("summary, smallest", smallest, 7);
+    expect("summary, largest", largest, 9);
+    expect("thousandths", fascjoldi_summary_thousandths(292, 1024), 285);
+    expect("of no rows", fascjoldi_summary_thousandths(4, 0), 0);
+    expect("marks", fascjoldi_summary_marks(5), 2);
+    expect("place in a block", fascjoldi_summary_place_in(1030, 1), 6);
+    expect("before the block", fascjoldi_summary_place_in(1023, 1), 0);
+    expect("behind the block", fascjoldi_summary_place_in(2048, 1), 1024);
+}
+
 /* A drawer of two blocks, and a list under a budget, beside the calls that they are made of (document 02, Items 6 and 7). */
 static void many(void)
 {
@@ -426,6 +531,8 @@ int main(void)
     refusals();
     files();
     fronts();
+    lists();
+    texts();
     body_refusals();
     file_refusals();
     many();

@@ -158,7 +158,7 @@ pub fn body_check_range(front: &[u8], block: usize, values: &[u64]) -> Result<()
     asked!(columns::body_check_range(front.as_ptr(), front.len(), block, values.as_ptr(), values.len()) gives ())
 }
 
-/// The first body of a file, by its front. Of a file of no blocks its bytes say nothing.
+/// The first body of a file, by its front. Its length is 0 where the front has no such entry, as that of a file of no blocks has none.
 pub fn first_body(front: &[u8]) -> Body {
     let mut body = Body::default();
     unsafe { sys::columns::body_first(front.as_ptr(), front.len(), &mut body.number, &mut body.start, &mut body.length) };
@@ -166,7 +166,7 @@ pub fn first_body(front: &[u8]) -> Body {
 }
 
 /// The body behind a body of a file, by its front. Where the contents are right, the number behind the last body is the count of blocks, and it begins
-/// where the file ends; its bytes say nothing.
+/// where the file ends; its length is 0, since the front has no such entry, unless more than the front is lent: then it says nothing.
 pub fn next_body(front: &[u8], mut body: Body) -> Body {
     unsafe { sys::columns::body_next(front.as_ptr(), front.len(), &mut body.number, &mut body.start, &mut body.length) };
     body

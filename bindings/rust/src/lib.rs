@@ -3,7 +3,8 @@
 //! [`Blocks`] has the calls on slices of any length: what cannot be done is [`Refused`], with a number and a place, and leaves every
 //! buffer as it was. [`BitPacking`], [`Delta`], [`FoR`], [`Transpose`] and [`RLE`] have the names and, but for the indices of
 //! `decode_unchecked`, the signatures of the crate fastlanes 0.7.2 over the same calls, so that a program written against that crate
-//! changes its `use` line. [`files`] has the calls on column files, and [`chunks`] a packed body that comes in parts.
+//! changes its `use` line. [`files`] has the calls on column files, and [`chunks`] a packed body that comes in parts. [`listing`]
+//! says what two column files differ in, and [`text`] has numbers in decimal and what is said of a block to a person.
 //!
 //! Each call is a function of the archive `libexports.a`, which is proved to answer as its definition says, for any input. What
 //! that proof takes for granted of pointers, lengths and overlapping is what Rust sees to for slices and references, so the calls here are
@@ -13,8 +14,10 @@ mod blocks;
 pub mod chunks;
 pub mod files;
 mod lanes;
+pub mod listing;
 #[rustfmt::skip]
 mod sys;
+pub mod text;
 
 pub use blocks::{Blocks, Front, Single};
 pub use lanes::{transpose_bits, untranspose_bits, BitPacking, Delta, FastLanes, FoR, Transpose, FL_ORDER, RLE};

@@ -289,3 +289,36 @@ pub mod chunks {
         pub fn trickle_ask(width: usize, held: usize, room: &[u8; 8192], output: *mut u64, output_length: usize, place: &mut usize) -> usize;
     }
 }
+
+pub mod machine {
+    extern "C" {
+        #[link_name = "fascjoldi_listing_start"]
+        pub fn listing_start(left_size: usize, right_size: usize, state: &mut [u64; 8], side: &mut usize, part: &mut usize,
+            start: &mut usize, length: &mut usize) -> usize;
+        #[link_name = "fascjoldi_listing_next"]
+        pub fn listing_next(state: &mut [u64; 8], left_front: *const u8, left_front_length: usize, right_front: *const u8,
+            right_front_length: usize, left_body: *const u8, left_body_length: usize, right_body: *const u8,
+            right_body_length: usize, output: *mut u8, output_length: usize, side: &mut usize, part: &mut usize, start: &mut usize,
+            length: &mut usize) -> usize;
+        #[link_name = "fascjoldi_listing_turns"]
+        pub fn listing_turns() -> usize;
+    }
+}
+
+pub mod text {
+    extern "C" {
+        #[link_name = "fascjoldi_decimal_parse"]
+        pub fn decimal_parse(text: *const u8, text_length: usize, value: &mut u64, place: &mut usize) -> usize;
+        #[link_name = "fascjoldi_decimal_lay"]
+        pub fn decimal_lay(value: u64, output: *mut u8, output_length: usize) -> usize;
+        #[link_name = "fascjoldi_summary_of_block"]
+        pub fn summary_of_block(front: *const u8, front_length: usize, block: usize, values: *const u64, values_length: usize,
+            kind: &mut u8, width: &mut u8, length: &mut u32, reference: &mut u64, smallest: &mut u64, largest: &mut u64);
+        #[link_name = "fascjoldi_summary_thousandths"]
+        pub fn summary_thousandths(bytes: u32, rows: u32) -> u64;
+        #[link_name = "fascjoldi_summary_marks"]
+        pub fn summary_marks(width: u8) -> usize;
+        #[link_name = "fascjoldi_summary_place_in"]
+        pub fn summary_place_in(row: u64, block: usize) -> usize;
+    }
+}

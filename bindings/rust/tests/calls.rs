@@ -1,7 +1,9 @@
 //! The calls from Rust. What is expected comes from the documents: document 01's cases P6 to P9, refusals, and the files that
 //! document 02 writes out.
 use fascjoldi::chunks::Body;
-use fascjoldi::{files, Blocks, Refused};
+use fascjoldi::text::{self, NoNumber};
+use fascjoldi::{files, listing, Blocks, Refused};
+use std::io::Cursor;
 
 /// The place of row r of lane l (document 01, "Places, lanes and rows").
 fn place(r: usize, l: usize) -> usize {
@@ -113,6 +115,50 @@ fn a_file_is_written_read_and_compared() {
     assert_eq!(left, values);
 }
 
+/// What is listed of two files in memory.
+fn listed(left: &[u8], right: &[u8]) -> String {
+    let mut text = Vec::new();
+    listing::changes(&mut Cursor::new(left), &mut Cursor::new(right), &mut text).unwrap();
+    String::from_utf8(text).unwrap()
+}
+
+#[test]
+fn what_two_files_differ_in_is_listed() {
+    let (mut values, mut sevens, mut nine) = ([7; 2048], [0; 400], [0; 400]);
+    let long = files::write(&values, &mut sevens).unwrap();
+    values[3] = 9;
+    let short = files::write(&values[..1024], &mut nine).unwrap();
+    assert_eq!(listed(&sevens[..long], &nine[..short]), "3 7 9\nrows 2048 1024\ndifferences 1\n");
+    assert_eq!(listed(&nine[..short], &nine[..short]), "differences 0\n");
+    assert_eq!(listed(&sevens[..long], &nine[..short - 1]), "refused right 8 0\n");
+    assert_eq!(listed(&[], &nine[..short - 1]), "refused left 8 0\n");
+    assert_eq!(listing::most_wishes(), 1300);
+}
+
+#[test]
+fn numbers_in_decimal_and_a_block_in_a_line() {
+    assert_eq!(text::parse(b"018446744073709551615"), Ok(u64::MAX));
+    assert_eq!(text::parse(b"18446744073709551616"), Err(NoNumber::Large));
+    assert_eq!(text::parse(b""), Err(NoNumber::Empty));
+    assert_eq!(text::parse(b"7 8"), Err(NoNumber::Other(1)));
+    let mut output = [77; 6];
+    assert_eq!((text::lay(1204, &mut output), &output), (4, b"1204MM"));
+    assert_eq!(text::lay(1234567, &mut output), 0);
+    let (mut values, mut file) = ([7; 1024], [0; 400]);
+    values[3] = 9;
+    assert_eq!(files::write(&values, &mut file), Ok(292));
+    let s = text::summary(&file[..36], 0, &values);
+    assert_eq!(
+        (s.kind, s.width, s.length, s.reference, s.smallest, s.largest),
+        (1, 2, 256, 7, 7, 9)
+    );
+    assert_eq!((text::thousandths(292, 1024), text::thousandths(4, 0), text::marks(5)), (285, 0, 2));
+    assert_eq!(
+        (text::place_in(1030, 1), text::place_in(1023, 1), text::place_in(2048, 1)),
+        (6, 0, 1024)
+    );
+}
+
 #[test]
 fn a_file_is_searched_by_its_front_and_one_body() {
     let (mut values, mut file, mut rows) = ([7; 1024], [0; 400], [77; 1024]);
@@ -122,7 +168,7 @@ fn a_file_is_searched_by_its_front_and_one_body() {
     let body = files::first_body(front);
     assert_eq!((body.number, body.start, body.length), (0, 36, 256));
     let behind = files::next_body(front, body);
-    assert_eq!((behind.number, behind.start), (1, 292));
+    assert_eq!((behind.number, behind.start, behind.length), (1, 292, 0));
     assert!(files::search_opens(front, 0, 9, 100));
     assert!(!files::search_opens(front, 0, 10, 100));
     let found = files::search_rows(&values, 2, 8, 10, &mut rows).unwrap();
