@@ -378,7 +378,7 @@ def signalled(checks, run):
         started = run.begun(
             "write", "-f", there.name, odd={"ODD_SYNC_FOLDER": 600}, stdin=subprocess.PIPE, preexec_fn=usual_signals
         )
-        started.communicate_input = started.stdin.write(text)
+        started.stdin.write(text)
         started.stdin.close()
         for _ in range(400):
             if there.read_bytes() == new:
@@ -392,10 +392,15 @@ def signalled(checks, run):
             f"{status} {run.names()}",
         )
         there.write_bytes(old)
-    said = run.shell(
-        "trap '' HUP; (sleep 0.3; seq 1 1024) | (columns write -f kept.col & p=$!; sleep 0.1; kill -HUP $p; wait $p)"
-    )
-    checks.that("an ignored signal stays ignored", said.status in (0, 2), str(said))
+    started = run.begun("write", "-f", there.name, stdin=subprocess.PIPE, preexec_fn=no_hangup)
+    started.stdin.write(text[:-1])
+    started.stdin.flush()
+    time.sleep(0.2)
+    started.send_signal(signal.SIGHUP)
+    time.sleep(0.2)
+    started.stdin.write(text[-1:])
+    started.stdin.close()
+    checks.that("an ignored signal stays ignored", waited(started) == 0 and there.read_bytes() == new)
     there.write_bytes(old)
     loop = subprocess.Popen(
         ["bash", "-c", 'while :; do "$@" write -f kept.col; echo next; done', "-", *run.command],
@@ -414,6 +419,10 @@ def signalled(checks, run):
 def usual_signals():
     for number in (*CAUGHT, signal.SIGPIPE):
         signal.signal(number, signal.SIG_DFL)
+
+
+def no_hangup():
+    signal.signal(signal.SIGHUP, signal.SIG_IGN)
 
 
 def waited(started):
