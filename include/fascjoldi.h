@@ -13,11 +13,12 @@
  * stack a call takes.
  *
  * What a call gives. The result is the number of its answer, from the list below; where a function says or gives something else,
- * its sentence has it. *place is the place that goes with the number, and 0 where the list names none. The lent numbers, as *place,
- * *value, *words and *length, are written by every call, also when it is refused. A buffer, which is a pointer with a length, is
- * written only where the number is FASCJOLDI_DONE: a refused call leaves each buffer as it was. Where several numbers apply to a
- * call on blocks the lowest is given; a call on a file goes through its tests in the order of docs/FORMAT.md. The functions keep
- * nothing between calls, so several threads may call them at once, each with buffers of its own.
+ * its sentence has it. *place is the place that goes with the number, and 0 where the list names none. The lent numbers, as
+ * *place, *value, *words and *length, are written by every call, also when it is refused. A buffer, which is a pointer with a
+ * length, is written only where the number is FASCJOLDI_DONE, or as its function says: a refused call leaves each buffer as it
+ * was. Where several numbers apply to a call on blocks the lowest is given; a call on a file goes through its tests in the order
+ * of docs/FORMAT.md. The functions keep nothing between calls, so several threads may call them at once, each with buffers of its
+ * own.
  *
  * T stands for the bits of an element, 8, 16, 32 or 64, and LANES for 1024 / T. A packed block has LANES times its width elements.
  */
@@ -376,7 +377,8 @@ size_t fascjoldi_trickle_ask(size_t width, size_t held, const uint8_t room[8192]
    file's buffer *part, and lend the bytes that were read with the next call.
    FASCJOLDI_WISH_WRITE: write the first *length bytes of the output.
    FASCJOLDI_WISH_DONE: nothing more; the bytes of all writes are the list.
-   What a wish does not name is 0 there. */
+   What a wish does not name is 0 there. The output is written by a call that wishes for a write, and by no other. The program
+   bindings/c/changes.c does all this. */
 
 /* Begins the list for files of these sizes in bytes, and gives the first wish. */
 size_t fascjoldi_listing_start(size_t left_size, size_t right_size, uint64_t state[8], size_t *side, size_t *part, size_t *start,
