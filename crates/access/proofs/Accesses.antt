@@ -5,15 +5,15 @@ use mathlib.Core.Path.{_≡_, refl, sym, ap, ap₂, _∙_}
 use mathlib.Core.List.{List}
 use Prim.Native.Nat.{ℕ, _*_, _≤_, _<_}
 use lib.ListN.{length, getD}
+use Rattle.lists.specs.Pick.{pick}
+use Rattle.lists.specs.Search.{firstBeyond}
+use Rattle.lists.proofs.Tabs.{getD-tab}
 use Rattle.places.specs.declared.Answer.{Answer}
 use Rattle.places.specs.declared.Answer.the-variants.{Done, Width, Block, Packed, Base, Lists, Index, Dictionary}
 use Rattle.places.specs.Answers.{isDone, left}
-use Rattle.places.specs.Pick.{pick}
-use Rattle.places.specs.Search.{firstBeyond}
 use Rattle.places.specs.Sizes.{lanes}
 use Rattle.places.specs.Takes.{answerFor}
 use Rattle.places.proofs.Answers.{says-answer, says-number}
-use Rattle.places.proofs.Tabs.{getD-tab}
 use Rattle.packing.specs.Calls.{unpackLeaves}
 use Rattle.packing.specs.Packed.{unpackOf, valueAt}
 use Rattle.packing.proofs.Answers.{good-block}

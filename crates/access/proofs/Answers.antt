@@ -6,13 +6,13 @@ use Prim.Native.Nat.{ℕ, _*_, _≤_, _<_}
 use native.Mathlib.Omega.{arith}
 use lib.ListN.{length, getD}
 use borrow.Author.Tests.{le-leb, lt-leb, le-ltb, lt-ltb, eq-eqb, ne-eqb, leb-true, ltb-true, eqb-true}
+use Rattle.lists.specs.Search.{firstBeyond}
+use Rattle.lists.proofs.Search.{first-beyond-before}
 use Rattle.places.specs.declared.Answer.{Answer}
 use Rattle.places.specs.declared.Answer.the-variants.{Done, Width, Packed, Lists, Index}
-use Rattle.places.specs.Search.{firstBeyond}
 use Rattle.places.specs.Sizes.{lanes}
 use Rattle.places.specs.Takes.{a-width, a-packed, two-lists, an-index, an-index-list, answerFor}
 use Rattle.places.proofs.Answers.{first-passes}
-use Rattle.places.proofs.Search.{first-beyond-before}
 use Rattle.access.specs.Calls.{single, singleOf, listTakes}
 use Rattle.access.specs.Counts.{countAt}
 use Rattle.packing.specs.Packed.{valueAt}

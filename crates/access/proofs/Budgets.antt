@@ -11,18 +11,18 @@ use lib.Dec.{leb}
 use lib.ListN.{length, getD, take, drop}
 use lib.Seq.{take-add, take-all, length-take-le, getD-take, ext-getD}
 use borrow.Author.Tests.{le-leb, lt-leb, leb-true, leb-false}
+use Rattle.lists.specs.Pick.{pick}
+use Rattle.lists.specs.Tab.{tab, over}
+use Rattle.lists.proofs.Overs.{over-front, over-rest}
+use Rattle.lists.proofs.Search.{first-beyond-none}
+use Rattle.lists.proofs.Tabs.{Written, tab-ext, length-tab, getD-tab, written-all}
+use Rattle.lists.proofs.Tests.{false-true}
 use Rattle.places.specs.declared.Answer.{Answer}
 use Rattle.places.specs.declared.Answer.the-variants.{Done}
 use Rattle.places.specs.Answers.{left}
-use Rattle.places.specs.Pick.{pick}
 use Rattle.places.specs.Places.{row}
-use Rattle.places.specs.Tab.{tab, over}
 use Rattle.places.specs.Takes.{answerFor}
 use Rattle.places.proofs.Answers.{says-answer, says-number}
-use Rattle.places.proofs.Overs.{over-front, over-rest}
-use Rattle.places.proofs.Search.{first-beyond-none}
-use Rattle.places.proofs.Tabs.{Written, tab-ext, length-tab, getD-tab, written-all}
-use Rattle.places.proofs.Tests.{false-true}
 use Rattle.packing.specs.Packed.{valueAt}
 use Rattle.access.specs.declared.Afforded.the-variants.{Front, Refused}
 use Rattle.access.specs.Budgets.{most, frontWords, affordable, withinGives, withinLeaves, answerOf, answeredOf, wordsOf}

@@ -13,12 +13,12 @@ use lib.Dec.{eqb, leb}
 use lib.ListN.{length, getD, take}
 use lib.Seq.{take-suc, take-all}
 use borrow.Author.Tests.{eq-eqb, ne-eqb, le-leb, lt-leb, le-ltb, lt-ltb}
-use Rattle.places.specs.Pick.{pick}
+use Rattle.lists.specs.Pick.{pick}
+use Rattle.lists.specs.Tab.{tab}
+use Rattle.lists.proofs.Tabs.{length-tab, getD-tab}
 use Rattle.places.specs.Places.{row}
 use Rattle.places.specs.Sizes.{Size}
-use Rattle.places.specs.Tab.{tab}
 use Rattle.places.proofs.Places.{each}
-use Rattle.places.proofs.Tabs.{length-tab, getD-tab}
 use Rattle.access.specs.InnerCounts.{firsts}
 use Rattle.access.specs.Counts.{BitIn, wordsRead, countAt, noCount, wordsAt, countsOf, sumOf, sumCap, listWords}
 

@@ -7,13 +7,13 @@ use mathlib.Core.List.{List}
 use Prim.Native.Nat.{ℕ, _+_, _*_, _/_, _%_, _≤_, _<_}
 use native.Mathlib.Omega.{arith}
 use lib.ListN.{getD, List·getD-eq-default}
-use Rattle.places.specs.Numbers.{digit}
+use Rattle.lists.specs.Numbers.{digit}
+use Rattle.lists.specs.Tab.{tab}
+use Rattle.lists.proofs.Every.{Same, same}
+use Rattle.lists.proofs.Tabs.{length-tab, getD-tab}
 use Rattle.places.specs.Places.{order, lane, row}
 use Rattle.places.specs.Sizes.{t8, t16, Size, lanes}
-use Rattle.places.specs.Tab.{tab}
-use Rattle.places.proofs.Every.{Same, same}
 use Rattle.places.proofs.Places.{lane-lt, row-lt}
-use Rattle.places.proofs.Tabs.{length-tab, getD-tab}
 use Rattle.packing.specs.Packed.{wordsNumber, valueAt}
 use Rattle.access.specs.Counts.{wordsRead, countAt}
 

@@ -6,9 +6,9 @@ use mathlib.Core.List.{List, [], _∷_}
 use mathlib.Core.Path.{_≡_, refl, ap₂, _∙_}
 use Prim.Native.Nat.{ℕ, _<_}
 use lib.ListN.{getD}
+use Rattle.lists.specs.Tab.{tab, tabFrom}
 use Rattle.places.specs.Places.{order, place, lane, row}
 use Rattle.places.specs.Sizes.{t32, t64, Size}
-use Rattle.places.specs.Tab.{tab, tabFrom}
 use Rattle.places.proofs.Places.{size32, size64, place-tables}
 
 -- The place formula takes what stands in the two tables of a place back to it.

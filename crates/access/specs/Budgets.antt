@@ -6,11 +6,11 @@ use mathlib.Core.List.{List}
 use Prim.Native.Nat.{ℕ, zero, suc}
 use lib.Dec.{leb}
 use lib.ListN.{length, take}
+use Rattle.lists.specs.Pick.{pick}
+use Rattle.lists.specs.Tab.{over}
 use Rattle.places.specs.declared.Answer.{Answer}
 use Rattle.places.specs.declared.Answer.the-variants.{Done}
 use Rattle.places.specs.Answers.{isDone, left}
-use Rattle.places.specs.Pick.{pick}
-use Rattle.places.specs.Tab.{over}
 use Rattle.places.specs.Takes.{answerFor}
 use Rattle.access.specs.declared.Afforded.{Afforded}
 use Rattle.access.specs.declared.Afforded.the-variants.{Front, Refused}

@@ -4,11 +4,11 @@
 use mathlib.Core.List.{List, [], _∷_}
 use Prim.Native.Nat.{ℕ}
 use lib.ListN.{length, getD}
+use Rattle.lists.specs.Pick.{pick}
+use Rattle.lists.specs.Tab.{tab}
 use Rattle.places.specs.declared.Answer.{Answer}
 use Rattle.places.specs.declared.Answer.the-variants.{Done}
 use Rattle.places.specs.Answers.{isDone, left}
-use Rattle.places.specs.Pick.{pick}
-use Rattle.places.specs.Tab.{tab}
 use Rattle.places.specs.Takes.{Taken, a-width, a-packed, two-lists, an-index, an-index-list, answerFor}
 use Rattle.packing.specs.Packed.{valueAt}
 use Rattle.access.specs.declared.Listed.{Listed}

@@ -5,10 +5,10 @@ use mathlib.Core.Path.{_≡_}
 use Prim.Native.Nat.{ℕ, _+_, _*_, _/_, _%_, _<_, min}
 use lib.Dec.{eqb, leb, ltb}
 use lib.ListN.{length, getD}
-use Rattle.places.specs.Pick.{pick, both}
+use Rattle.lists.specs.Pick.{pick, both}
+use Rattle.lists.specs.Tab.{tab}
 use Rattle.places.specs.Places.{row}
 use Rattle.places.specs.Sizes.{largestU64}
-use Rattle.places.specs.Tab.{tab}
 
 -- At a width of at most t the bits of row r stand in this many packed words of its lane: in none at width 0, in one where they end within the
 -- word in which they begin, and else in two.

@@ -2,7 +2,7 @@
 -- Assumes nothing.
 use Prim.Native.Nat.{ℕ}
 use lib.Dec.{eqb}
-use Rattle.places.specs.Pick.{pick}
+use Rattle.lists.specs.Pick.{pick}
 
 -- A lookup reads no word at width 0, and else a first one. So these are the first words of n lookups.
 abbrev pub firsts : (w n : ℕ) → ℕ

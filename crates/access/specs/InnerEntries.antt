@@ -2,10 +2,10 @@
 -- Assumes nothing.
 use Prim.Native.Nat.{ℕ}
 use lib.Dec.{eqb}
+use Rattle.lists.specs.Pick.{pick}
 use Rattle.places.specs.declared.Answer.{Answer}
 use Rattle.places.specs.declared.Answer.the-variants.{Index}
 use Rattle.places.specs.Answers.{numberOf}
-use Rattle.places.specs.Pick.{pick}
 
 -- What entry i answers, the list answers: a bad index, number 6, has the entry's place in the list, and everything else stands as it is.
 abbrev pub atEntry : (answer : Answer) (i : ℕ) → Answer

@@ -3,9 +3,9 @@
 use mathlib.Core.List.{List, [], _∷_}
 use Prim.Native.Nat.{ℕ}
 use lib.Dec.{leb}
-use Rattle.places.specs.Pick.{pick}
+use Rattle.lists.specs.Pick.{pick}
+use Rattle.lists.specs.Tab.{tab}
 use Rattle.places.specs.Sizes.{t32}
-use Rattle.places.specs.Tab.{tab}
 
 -- From element size 32 on it is the table of a rule for the places of a block. At the two sizes below there is no table (document 02,
 -- Item 4), and one byte stands for it.

@@ -10,7 +10,7 @@ pub mod t8;
 
 use places::Answer;
 ghost use mathlib.Core.Path.{_≡_};
-ghost use Rattle.places.specs.Search.{firstBeyond};
+ghost use Rattle.lists.specs.Search.{firstBeyond};
 ghost use Rattle.access.specs.Budgets as Budgets;
 ghost use Rattle.access.specs.Calls.{answerOf, wordsOf};
 ghost use Rattle.access.specs.InnerCounts.{firsts};

@@ -9,12 +9,12 @@ use native.Mathlib.Omega.{arith}
 use lib.Arith.{digits-lt}
 use lib.ListN.{getD}
 use lib.Pow.{pow-pos, field, mod-mod-pow, shr-shr}
-use Rattle.places.specs.Numbers.{number, digit, Elements}
+use Rattle.lists.specs.Numbers.{number, digit, Elements}
+use Rattle.lists.proofs.Digits.{number-ext, number-digits, digit-number, digit-lt}
+use Rattle.lists.proofs.Tabs.{tab-ext}
 use Rattle.places.specs.Places.{place, lane, row}
 use Rattle.places.specs.Sizes.{Size, lanes}
-use Rattle.places.proofs.Digits.{number-ext, number-digits, digit-number, digit-lt}
 use Rattle.places.proofs.Places.{lanes-some, row-lt}
-use Rattle.places.proofs.Tabs.{tab-ext}
 use Rattle.packing.specs.Packed.{word, part, wordsNumber, valuesNumber, wordAt, packOf, valueAt, unpackOf}
 use Rattle.plain.specs.Plain.{bit, bitAt, valueIn, plainValue, plainUnpack, bitOf, wordIn, plainPack}
 

@@ -6,10 +6,10 @@ use mathlib.Core.List.{List}
 use mathlib.Core.Path.{_≡_, refl, ap, ap₂, _∙_}
 use Prim.Native.Nat.{ℕ}
 use borrow.Author.Tests.{eqb-true}
+use Rattle.lists.specs.Numbers.{Elements}
+use Rattle.lists.specs.Pick.{pick}
 use Rattle.places.specs.declared.Answer.{Answer}
 use Rattle.places.specs.Answers.{isDone, left}
-use Rattle.places.specs.Numbers.{Elements}
-use Rattle.places.specs.Pick.{pick}
 use Rattle.places.specs.Sizes.{Size}
 use Rattle.places.specs.Takes.{answerFor}
 use Rattle.places.proofs.Answers.{number-done}

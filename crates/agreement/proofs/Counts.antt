@@ -7,7 +7,7 @@ use native.Mathlib.Nat.{add-comm, add-zero}
 use native.Mathlib.Omega.{arith}
 use lib.Dec.{eqb}
 use borrow.Author.Tests.{eq-eqb, ne-eqb}
-use Rattle.places.specs.Pick.{pick}
+use Rattle.lists.specs.Pick.{pick}
 use Rattle.places.specs.Places.{row}
 use Rattle.places.specs.Sizes.{Size}
 use Rattle.places.proofs.Places.{each}

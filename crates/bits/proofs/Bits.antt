@@ -7,19 +7,19 @@ use Prim.Native.Nat.{ℕ, _+_, _*_, _/_, _%_, _^_, _<_}
 use native.Mathlib.Nat.{mul-comm, div-add-mod', div-lt-iff-lt-mul, mod-lt}
 use native.Mathlib.Omega.{arith}
 use lib.Arith.{digits-lt, digits-div, digits-mod}
+use Rattle.lists.specs.Tab.{tab}
+use Rattle.lists.specs.Numbers.{digit}
+use Rattle.lists.proofs.Every.{same}
+use Rattle.lists.proofs.Tabs.{getD-tab, tab-ext}
+use Rattle.lists.proofs.Digits.{number-lt}
 use Rattle.places.specs.Places.{order, place, lane, row, source, target}
 use Rattle.places.specs.Sizes.{t64, Size, lanes}
-use Rattle.places.specs.Tab.{tab}
 use Rattle.places.specs.Transposes.{transposeOf, untransposeOf}
-use Rattle.places.proofs.Every.{same}
 use Rattle.places.proofs.Places.{size64, size-some, size-lanes, place-row-lane, lane-lt, row-lt, lane-place, row-place, place-lt, source-lt, target-lt}
-use Rattle.places.proofs.Tabs.{getD-tab, tab-ext}
 use Rattle.bits.specs.Bits.{BitBlock, bit, goesTo, comesFrom, transposeBitsOf, untransposeBitsOf, bitOf}
 use Rattle.bits.specs.InnerSteps.{turnOf, byteOf}
 use Rattle.bits.proofs.Blocks.{block-bit-lt, bit-block, block-block, is-block}
-use Rattle.places.specs.Numbers.{digit}
 use Rattle.bits.proofs.Numbers.{bit-lt, bit-mod, bit-shr, is-number, bit-of-number}
-use Rattle.places.proofs.Digits.{number-lt}
 
 -- Where a bit goes to and where it comes from are inverse to each other on 0 to 1023.
 module _ {t : ℕ} (s : Size t) where

@@ -7,13 +7,13 @@ use native.Mathlib.Nat.{div-add-mod', mod-lt}
 use native.Mathlib.Omega.{arith}
 use lib.Arith.{digits-lt, digits-div, digits-mod}
 use lib.ListN.{getD}
-use Rattle.places.proofs.Tabs.{getD-tab, length-tab, tab-ext, is-tab}
+use Rattle.lists.specs.Numbers.{number, digit}
+use Rattle.lists.proofs.Tabs.{getD-tab, length-tab, tab-ext, is-tab}
+use Rattle.lists.proofs.Digits.{number-lt, number-ext, digit-lt}
 use Rattle.bits.specs.Bits.{BitBlock, bit, fromBits, bitOf}
-use Rattle.places.specs.Numbers.{number, digit}
 use Rattle.bits.specs.InnerSteps.{byteAt, bytesOf, gatherOf, turnOf, gathersOf, turnsOf, byteOf}
 use Rattle.bits.proofs.Gathers.{strided-lt}
 use Rattle.bits.proofs.Numbers.{bit-lt, bit-mod, bit-shr, bit-number, bit-of-number, is-number}
-use Rattle.places.proofs.Digits.{number-lt, number-ext, digit-lt}
 
 -- A bit of a block is 0 or 1.
 pub block-bit-lt : (b : List ℕ) (p : ℕ) → bit b p < 2

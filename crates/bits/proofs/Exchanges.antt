@@ -7,10 +7,10 @@ use native.Mathlib.Nat.{not-suc-le-zero, le-of-suc-le-suc, lt-of-le-of-lt, mod-l
 use native.Mathlib.Omega.{arith}
 use lib.Bits.{bitAnd, bitXor, and-mask, and-le-l, and-zero-r, xor-zero-r, xor-comm, xor-lt}
 use lib.Pow.{pow-pos, shr-le}
-use Rattle.places.proofs.Every.{Same, Below, same, below}
+use Rattle.lists.proofs.Every.{Same, Below, same, below}
+use Rattle.lists.proofs.Digits.{number-ext}
 use Rattle.bits.specs.InnerSteps.{crossed, exchangeOf, turnOf}
 use Rattle.bits.proofs.Numbers.{bit-lt, bit-mod, bit-shr, bit-shl, bit-shl-below, bit-and, bit-xor, is-number, bit-of-number}
-use Rattle.places.proofs.Digits.{number-ext}
 use Rattle.bits.specs.Bits.{bitOf}
 
 -- Of two bits, the first cancels itself.

@@ -10,9 +10,9 @@ use lib.Arith.{digits-lt}
 use lib.Bits.{bitOr, or-shifted-r}
 use lib.ListN.{length, getD}
 use lib.Pow.{pow-add, shl-exact}
-use Rattle.places.specs.Tab.{tab, over}
-use Rattle.places.proofs.Tabs.{Written, written-length, written-run, written-ext}
-use Rattle.places.specs.Numbers.{number}
+use Rattle.lists.specs.Tab.{tab, over}
+use Rattle.lists.specs.Numbers.{number}
+use Rattle.lists.proofs.Tabs.{Written, written-length, written-run, written-ext}
 use Rattle.bits.specs.InnerSteps.{byteAt, byteOf}
 
 -- The bytes of one number more are written.

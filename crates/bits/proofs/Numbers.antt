@@ -7,8 +7,8 @@ use native.Mathlib.Nat.{add-comm, zero-add, zero-div, mul-suc, mul-le-mul-left, 
 use native.Mathlib.Omega.{arith}
 use lib.Bits.{bitAnd, bitXor, and-shr, xor-shr, and-mod, xor-mod}
 use lib.Pow.{pow-pos, mod-mod-pow, field, shr-shr, high, low, shl-shr}
-use Rattle.places.specs.Numbers.{number, digit}
-use Rattle.places.proofs.Digits.{number-lt, number-ext, digit-lt, number-digit}
+use Rattle.lists.specs.Numbers.{number, digit}
+use Rattle.lists.proofs.Digits.{number-lt, number-ext, digit-lt, number-digit}
 use Rattle.bits.specs.Bits.{bitOf}
 
 -- A bit is a digit of one bit: what is left of the number above place i, modulo 2. It is 0 or 1.

@@ -3,9 +3,9 @@
 use mathlib.Core.Path.{_≡_}
 use mathlib.Core.List.{List}
 use Prim.Native.Nat.{ℕ, _+_, _*_, _/_, _<_}
+use Rattle.lists.proofs.Every.{Same, Below, same, below}
 use Rattle.places.specs.Places.{order, place, lane, row}
 use Rattle.places.specs.Sizes.{t64, Size}
-use Rattle.places.proofs.Every.{Same, Below, same, below}
 use Rattle.places.proofs.Places.{each}
 use Rattle.bits.specs.Bits.{goesTo, comesFrom, transposeBitsOf, untransposeBitsOf}
 use Rattle.bits.specs.InnerSteps.{gathersOf, turnsOf, groupStart, scatterStart, unscatterStart, ungroupStart}

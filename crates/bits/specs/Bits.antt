@@ -4,10 +4,10 @@ use mathlib.Core.List.{List}
 use mathlib.Core.Path.{_≡_}
 use Prim.Native.Nat.{ℕ, _+_, _*_, _/_, _%_, _^_, _<_}
 use lib.ListN.{length, getD}
-use Rattle.places.specs.Numbers.{number, digit}
+use Rattle.lists.specs.Numbers.{number, digit}
+use Rattle.lists.specs.Tab.{tab}
 use Rattle.places.specs.Places.{place, lane, row}
 use Rattle.places.specs.Sizes.{t64}
-use Rattle.places.specs.Tab.{tab}
 
 -- A bit block is sixteen numbers below 2^64. An array [u64; 16] is always one.
 pub record BitBlock (b : List ℕ) : Type 0 where

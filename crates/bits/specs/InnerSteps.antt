@@ -4,10 +4,10 @@
 use mathlib.Core.List.{List}
 use Prim.Native.Nat.{ℕ, _+_, _-_, _*_, _/_, _%_, _^_}
 use lib.ListN.{getD}
-use Rattle.places.specs.Numbers.{number, digit}
+use Rattle.lists.specs.Numbers.{number, digit}
+use Rattle.lists.specs.Tab.{tab}
 use Rattle.places.specs.Places.{order}
 use Rattle.places.specs.Sizes.{lanes}
-use Rattle.places.specs.Tab.{tab}
 use Rattle.bits.specs.Bits.{bitOf}
 
 -- This is byte i of the number x, the lowest being byte 0.

@@ -17,7 +17,7 @@ use places::order;
 ghost use mathlib.Core.Path.{_≡_};
 ghost use Prim.Native.Nat.{ℕ, _+_, _*_, _^_, _≤_, _<_};
 ghost use lib.ListN.{length};
-ghost use Rattle.places.specs.Tab.{tab, over};
+ghost use Rattle.lists.specs.Tab.{tab, over};
 ghost use Rattle.bits.specs.Bits.{untransposeBitsOf, bitOf};
 ghost use Rattle.bits.specs.InnerSteps.{bytesOf, gatherOf, exchangeOf, turnOf, gathersOf, turnsOf, scatterStart, unscatterStart, ungroupStart, byteOf};
 

@@ -9,11 +9,11 @@ use native.Mathlib.Nat.{mod-eq-of-lt}
 use native.Mathlib.Omega.{arith}
 use lib.ListN.{length, getD, take, drop}
 use lib.Pow.{pow-pos}
-use Rattle.places.specs.Numbers.{plus, Elements}
+use Rattle.lists.specs.Numbers.{plus, Elements}
+use Rattle.lists.specs.Tab.{tab}
+use Rattle.lists.proofs.Digits.{elements-of}
+use Rattle.lists.proofs.Tabs.{length-tab, getD-tab}
 use Rattle.places.specs.Sizes.{t64, lanes}
-use Rattle.places.specs.Tab.{tab}
-use Rattle.places.proofs.Digits.{elements-of}
-use Rattle.places.proofs.Tabs.{length-tab, getD-tab}
 use Rattle.packing.specs.Packed.{unpackOf, valueAt}
 use Rattle.packing.proofs.Rounds.{length-unpack}
 use Rattle.deltas.specs.Deltas.{unforPackOf, undeltaPackOf}

@@ -10,10 +10,13 @@ use lib.Dec.{eqb, ltb, leb}
 use lib.ListN.{length, take, drop, replicate, length-drop, length-replicate}
 use lib.Seq.{take-all, length-take-le}
 use borrow.Author.Tests.{le-leb, lt-leb, lt-ltb, le-ltb, eq-eqb, ne-eqb}
+use Rattle.lists.specs.Tests.{unless}
+use Rattle.lists.specs.Pick.{pick}
+use Rattle.lists.specs.Search.{firstBeyond}
+use Rattle.lists.specs.Ends.{highestOf}
+use Rattle.lists.proofs.Highs.{highest-beyond}
 use Rattle.places.specs.declared.Answer.the-variants.{Done as NoRefusal, Dictionary}
-use Rattle.places.specs.Answers.{isDone, unless}
-use Rattle.places.specs.Pick.{pick}
-use Rattle.places.specs.Search.{firstBeyond}
+use Rattle.places.specs.Answers.{isDone}
 use Rattle.places.specs.Sizes.{t64, lanes}
 use Rattle.places.specs.Takes.{answerFor}
 use Rattle.packing.specs.Calls.{unpackLeaves}
@@ -23,9 +26,7 @@ use Rattle.deltas.specs.Calls.{unforPackLeaves, undeltaPackLeaves}
 use Rattle.deltas.specs.Deltas.{unforPackOf, undeltaPackOf}
 use Rattle.deltas.proofs.Answers.{unfor-pack-leaves, undelta-pack-leaves}
 use Rattle.runs.specs.Calls.{decodeTakes, decodeLeaves}
-use Rattle.runs.specs.Highest.{highestOf}
 use Rattle.runs.specs.Runs.{decodeOf}
-use Rattle.runs.proofs.Highs.{highest-beyond}
 use Rattle.little.specs.Little.{readLeaves}
 pub use Rattle.little.proofs.Little.{length-numbers, numbers-read}
 use Rattle.contents.specs.declared.Entry.{Entry}

@@ -1,4 +1,3 @@
 pub mod Blocks
 pub mod Bodies
-pub mod Lows
 pub mod Ranges

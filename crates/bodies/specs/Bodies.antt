@@ -6,9 +6,9 @@ use mathlib.Core.List.{List, [], _∷_}
 use Prim.Native.Nat.{ℕ, _*_, _-_, _/_}
 use lib.Dec.{eqb, leb}
 use lib.ListN.{length, drop}
-use Rattle.places.specs.Takes.{long}
-use Rattle.places.specs.Pick.{pick}
-use Rattle.places.specs.Search.{firstBeyond}
+use Rattle.lists.specs.Tests.{long}
+use Rattle.lists.specs.Pick.{pick}
+use Rattle.lists.specs.Search.{firstBeyond}
 use Rattle.places.specs.Sizes.{t64, lanes}
 use Rattle.packing.specs.Packed.{unpackOf}
 use Rattle.deltas.specs.Deltas.{unforPackOf, undeltaPackOf}

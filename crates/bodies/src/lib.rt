@@ -17,16 +17,16 @@ ghost use mathlib.Core.Bool.{true};
 ghost use mathlib.Core.List.{[], _∷_};
 ghost use Prim.Native.Nat.{_+_, _*_, _≤_, _<_};
 ghost use lib.ListN.{length};
+ghost use Rattle.lists.specs.Pick.{pick};
+ghost use Rattle.lists.specs.Ends.{highestOf, lowestOf};
 ghost use Rattle.places.specs.Answers.{isDone};
-ghost use Rattle.places.specs.Pick.{pick};
 ghost use Rattle.places.specs.Sizes.{t64, lanes};
 ghost use Rattle.deltas.specs.Deltas.{undeltaPackOf};
-ghost use Rattle.runs.specs.Highest.{highestOf};
 ghost use Rattle.runs.specs.Runs.{decodeOf};
 ghost use Rattle.contents.specs.declared.FileAnswer.the-variants.{Runs};
 ghost use Rattle.contents.specs.Answers.{fileAnswer, numberOf};
 ghost use Rattle.contents.specs.Contents.{isLaidOut};
-ghost use Rattle.bodies.specs.Ranges.{lowestOf, isRange};
+ghost use Rattle.bodies.specs.Ranges.{isRange};
 ghost use Rattle.bodies.specs.Bodies.{runIndices, wordsFrom, packedFrom, blockOf, indexed, hasGoodRuns, bodyTests, blockTests, blockLeaves};
 
 // Whether the body is as its entry says.

@@ -10,8 +10,8 @@ use mathlib.Core.List.{List, [], _∷_, _++_}
 use Prim.Native.Nat.{ℕ, zero, suc}
 use lib.Dec.{eqb, leb}
 use lib.ListN.{length, take}
-use Rattle.places.specs.Takes.{long}
-use Rattle.places.specs.Pick.{pick}
+use Rattle.lists.specs.Tests.{long}
+use Rattle.lists.specs.Pick.{pick}
 use Rattle.contents.specs.declared.FileAnswer.the-variants.{BadEntry, Block, Cut, Over, Range, Runs}
 use Rattle.contents.specs.declared.FileAnswer.{FileAnswer}
 use Rattle.contents.specs.Answers.{FileTest, fileAnswer, isDone, left}

@@ -7,19 +7,20 @@ use native.Mathlib.Omega.{arith}
 use borrow.Author.Tests.{eq-eqb, ne-eqb, le-leb, lt-leb}
 use lib.ListN.{length, take, length-append}
 use lib.Seq.{length-take-le, getD-take}
-use Rattle.places.specs.Numbers.{Elements}
-use Rattle.places.specs.Pick.{pick}
+use Rattle.lists.specs.Numbers.{Elements}
+use Rattle.lists.specs.Pick.{pick}
+use Rattle.lists.specs.Tab.{over}
+use Rattle.lists.specs.Ends.{highestOf, lowestOf}
+use Rattle.lists.proofs.Tabs.{is-tab}
+use Rattle.lists.proofs.Highs.{highest-bound}
+use Rattle.lists.proofs.Lows.{lowest-bound}
 use Rattle.places.specs.Sizes.{t64}
-use Rattle.places.specs.Tab.{over}
-use Rattle.places.proofs.Tabs.{is-tab}
 use Rattle.deltas.specs.Calls.{deltaLeaves}
 use Rattle.deltas.specs.Deltas.{deltaOf, forPackOf}
 use Rattle.deltas.proofs.Lanes.{length-for-pack}
 use Rattle.packing.specs.Packed.{packOf}
 use Rattle.packing.proofs.Rounds.{length-pack}
 use Rattle.deltas.proofs.Answers.{delta-leaves}
-use Rattle.runs.specs.Highest.{highestOf}
-use Rattle.runs.proofs.Highs.{highest-bound}
 use Rattle.little.specs.Little.{writeLeaves}
 use Rattle.little.proofs.Bytes.{write-all, length-all}
 use Rattle.contents.specs.declared.FileAnswer.{FileAnswer}
@@ -32,11 +33,10 @@ use Rattle.candidates.specs.declared.Measures.{Measures}
 use Rattle.candidates.specs.Calls.{entryFor, layTests, laidOf, layLeaves, answerOf}
 use Rattle.candidates.specs.Candidates.{baseOf, differences, framed, chosen, bodyFor}
 use Rattle.candidates.specs.InnerMeasures.{measuresOf, shorterPart, wordsBy}
-use Rattle.bodies.specs.Ranges.{lowestOf, trueRange}
+use Rattle.bodies.specs.Ranges.{trueRange}
 use Rattle.candidates.specs.Widths.{bits, widthOf}
 use Rattle.candidates.proofs.Choice.{length-base, body-sized, front-over}
 use Rattle.candidates.proofs.Filling.{base-first}
-use Rattle.bodies.proofs.Lows.{lowest-bound}
 use Rattle.candidates.proofs.Widths.{width-most, frame-highest}
 
 module _ (values : List ℕ) (long : length values ≡ 1024) where

@@ -11,11 +11,13 @@ use borrow.Author.Tests.{leb-true, leb-false, le-leb, lt-leb}
 use lib.Dec.{eqb, leb}
 use lib.ListN.{length, take, length-append}
 use lib.Seq.{length-take-le}
-use Rattle.places.specs.Pick.{pick}
+use Rattle.lists.specs.Pick.{pick}
+use Rattle.lists.specs.Tab.{over}
+use Rattle.lists.specs.Ends.{lowestOf}
+use Rattle.lists.proofs.Overs.{over-front}
+use Rattle.lists.proofs.Tabs.{length-tab}
+use Rattle.lists.proofs.Lows.{lowest-element}
 use Rattle.places.specs.Sizes.{t64}
-use Rattle.places.specs.Tab.{over}
-use Rattle.places.proofs.Overs.{over-front}
-use Rattle.places.proofs.Tabs.{length-tab}
 use Rattle.packing.specs.Packed.{packOf}
 use Rattle.packing.proofs.Rounds.{length-pack}
 use Rattle.deltas.proofs.Lanes.{length-for-pack}
@@ -31,9 +33,7 @@ use Rattle.bodies.proofs.Bodies.{other-runs}
 use Rattle.candidates.specs.Candidates.{Candidate, plainAt, frameAt, stepsAt, plain, frame, steps, baseOf, differences, framed, shorter, chosen, bodyFor}
 use Rattle.candidates.specs.InnerMeasures.{measuresOf, shorterEntry, entryBy, shorterPart, wordsBy}
 use Rattle.candidates.specs.Restored.{candidateAt, packs, candidate}
-use Rattle.bodies.specs.Ranges.{lowestOf}
 use Rattle.candidates.specs.Widths.{widthOf}
-use Rattle.bodies.proofs.Lows.{lowest-element}
 use Rattle.candidates.proofs.Widths.{width-most}
 
 -- There is a base word for each lane.

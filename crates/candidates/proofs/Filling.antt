@@ -8,12 +8,12 @@ use native.Mathlib.Omega.{arith}
 use lib.ListN.{length, getD, take, drop, length-drop}
 use lib.Seq.{length-take-le, drop-drop}
 use borrow.Rule.Slice.PartMut.{midOf, putMid}
+use Rattle.lists.specs.Tab.{over}
+use Rattle.lists.proofs.Overs.{over-append, length-over}
+use Rattle.lists.proofs.Tabs.{tab-ext}
 use Rattle.places.specs.Sizes.{t64}
-use Rattle.places.specs.Tab.{over}
 use Rattle.places.specs.Places.{place, order}
-use Rattle.places.proofs.Overs.{over-append, length-over}
 use Rattle.places.proofs.Places.{place-lane}
-use Rattle.places.proofs.Tabs.{tab-ext}
 use Rattle.rows.specs.Rows.{loadOf, storeOf}
 use Rattle.rows.proofs.Rows.{load-room, store-room}
 use Rattle.packing.specs.Calls.{packLeaves}

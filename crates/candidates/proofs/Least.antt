@@ -12,12 +12,14 @@ use native.Mathlib.Omega.{arith}
 use lib.ListN.{length, getD, drop}
 use lib.Pow.{pow-mono}
 use lib.Seq.{ext-getD, drop-at}
-use Rattle.places.specs.Numbers.{plus, minus, Elements}
+use Rattle.lists.specs.Numbers.{plus, minus, Elements}
+use Rattle.lists.specs.Ends.{lowestOf}
+use Rattle.lists.proofs.Digits.{elements-of}
+use Rattle.lists.proofs.Tabs.{length-tab, getD-tab}
+use Rattle.lists.proofs.Lows.{lowest-element}
 use Rattle.places.specs.Places.{place}
 use Rattle.places.specs.Sizes.{t64, lanes}
-use Rattle.places.proofs.Digits.{elements-of}
 use Rattle.places.proofs.Places.{size64}
-use Rattle.places.proofs.Tabs.{length-tab, getD-tab}
 use Rattle.packing.specs.Packed.{packOf, unpackOf, valueAt}
 use Rattle.packing.proofs.Rounds.{length-pack, pack-fits, length-unpack, unpack-at, unpack-fits, restores}
 use Rattle.deltas.specs.Deltas.{deltaOf, frameOf, forPackOf, unforPackOf, undeltaPackOf}
@@ -30,10 +32,8 @@ use Rattle.bodies.specs.Bodies.{blockOf, wordsFrom, packedFrom}
 use Rattle.bodies.proofs.Bodies.{block-packed, block-frame, block-differences}
 use Rattle.candidates.specs.Candidates.{plainAt, frameAt, stepsAt, framed, baseOf, differences, chosen}
 use Rattle.candidates.specs.Restored.{restored, candidateAt, packs}
-use Rattle.bodies.specs.Ranges.{lowestOf}
 use Rattle.candidates.specs.Widths.{widthOf}
 use Rattle.candidates.proofs.Choice.{length-base, Which, is-plain, is-frame, is-steps, which, chosen-candidate, chosen-kind, chosen-width}
-use Rattle.bodies.proofs.Lows.{lowest-element}
 use Rattle.candidates.proofs.Widths.{width-fits, width-most}
 
 -- The words of a body are read back from its bytes: those at the front,

@@ -14,19 +14,17 @@ use lib.Count.{leadingZeros, leading-length}
 use lib.Dec.{leb}
 use lib.ListN.{length, getD}
 use lib.Pow.{pow-mono, pow-pos}
-use Rattle.places.specs.Numbers.{Elements, plus, minus}
+use Rattle.lists.specs.Numbers.{Elements, plus, minus}
+use Rattle.lists.specs.Tab.{tab}
+use Rattle.lists.specs.Ends.{highestOf, lowestOf}
+use Rattle.lists.proofs.Digits.{elements-of}
+use Rattle.lists.proofs.Tabs.{length-tab, getD-tab}
+use Rattle.lists.proofs.Highs.{highest-bound, highest-below, highest-stands}
+use Rattle.lists.proofs.Search.{first-le, first-before, first-at, first-only}
+use Rattle.lists.proofs.Lows.{lowest-bound}
 use Rattle.places.specs.Sizes.{t64}
-use Rattle.places.specs.Tab.{tab}
-use Rattle.places.proofs.Digits.{elements-of}
-use Rattle.places.proofs.Tabs.{length-tab, getD-tab}
 use Rattle.deltas.specs.Deltas.{frameOf}
 use Rattle.deltas.proofs.Lanes.{minus-only}
-use Rattle.runs.specs.Highest.{highestOf}
-use Rattle.runs.proofs.Highs.{highest-bound, highest-below}
-use Rattle.contents.proofs.First.{first-le, first-before, first-at, first-only}
-use Rattle.bodies.specs.Ranges.{lowestOf}
-use Rattle.bodies.proofs.Lows.{lowest-bound}
-use Rattle.bodies.proofs.Ranges.{highest-stands}
 use Rattle.candidates.specs.Widths.{bits, widthOf}
 
 module _ (m : ℕ) where

@@ -5,9 +5,9 @@ use mathlib.Core.List.{List, [], _∷_}
 use Prim.Native.Nat.{ℕ}
 use lib.Dec.{leb}
 use lib.ListN.{length}
-use Rattle.places.specs.Pick.{pick}
-use Rattle.places.specs.Tab.{over}
-use Rattle.places.specs.Takes.{long}
+use Rattle.lists.specs.Pick.{pick}
+use Rattle.lists.specs.Tab.{over}
+use Rattle.lists.specs.Tests.{long}
 use Rattle.contents.specs.declared.Entry.{Entry}
 use Rattle.contents.specs.declared.FileAnswer.{FileAnswer}
 use Rattle.contents.specs.declared.FileAnswer.the-variants.{Done, Block, Room}

@@ -5,16 +5,16 @@ use mathlib.Core.List.{List, _++_}
 use Prim.Native.Nat.{ℕ}
 use lib.Dec.{leb}
 use lib.ListN.{getD}
-use Rattle.places.specs.Pick.{pick}
+use Rattle.lists.specs.Pick.{pick}
+use Rattle.lists.specs.Tab.{tab}
+use Rattle.lists.specs.Ends.{lowestOf}
 use Rattle.places.specs.Places.{place}
 use Rattle.places.specs.Sizes.{t64, lanes}
-use Rattle.places.specs.Tab.{tab}
 use Rattle.packing.specs.Packed.{packOf}
 use Rattle.deltas.specs.Deltas.{deltaOf, frameOf, forPackOf}
 use Rattle.little.specs.Little.{allBytes}
 use Rattle.contents.specs.declared.Entry.{Entry}
 use Rattle.contents.specs.Contents.{packedSize}
-use Rattle.bodies.specs.Ranges.{lowestOf}
 use Rattle.candidates.specs.Widths.{widthOf}
 
 -- A candidate is the entry that the contents would have, and the words of the body.

@@ -5,14 +5,13 @@ use mathlib.Core.List.{List, _++_}
 use Prim.Native.Nat.{ℕ}
 use lib.Dec.{leb}
 use lib.ListN.{length}
-use Rattle.places.specs.Pick.{pick}
+use Rattle.lists.specs.Pick.{pick}
+use Rattle.lists.specs.Ends.{highestOf, lowestOf}
 use Rattle.places.specs.Sizes.{t64}
 use Rattle.packing.specs.Packed.{packOf}
 use Rattle.deltas.specs.Deltas.{forPackOf}
 use Rattle.contents.specs.declared.Entry.{Entry}
 use Rattle.candidates.specs.declared.Measures.{Measures}
-use Rattle.runs.specs.Highest.{highestOf}
-use Rattle.bodies.specs.Ranges.{lowestOf}
 use Rattle.candidates.specs.Widths.{widthOf}
 use Rattle.candidates.specs.Candidates.{packedEntry, framed, differences, baseOf}
 

@@ -4,7 +4,7 @@
 use mathlib.Core.List.{List}
 use Prim.Native.Nat.{ℕ}
 use lib.Dec.{eqb}
-use Rattle.places.specs.Pick.{pick}
+use Rattle.lists.specs.Pick.{pick}
 use Rattle.little.specs.Little.{allBytes}
 use Rattle.bodies.specs.Bodies.{blockOf}
 use Rattle.candidates.specs.Candidates.{Candidate, plainAt, frameAt, stepsAt, framed, differences}

@@ -4,8 +4,8 @@
 use mathlib.Core.List.{List}
 use Prim.Native.Nat.{ℕ, _^_}
 use lib.Dec.{leb}
-use Rattle.runs.specs.Highest.{highestOf}
-use Rattle.contents.specs.First.{firstBad}
+use Rattle.lists.specs.Ends.{highestOf}
+use Rattle.lists.specs.Search.{firstBad}
 
 -- This is the least width that holds m: the lowest width w at which 2^w is not at most m, so that m is below 2^w. It is 64 where no lower
 -- one holds m, and 64 bits hold every number that the calls take.

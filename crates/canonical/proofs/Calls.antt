@@ -7,11 +7,11 @@ use Prim.Native.Nat.{ℕ, _≤_, _<_}
 use native.Mathlib.Omega.{arith}
 use borrow.Author.Tests.{eq-eqb, ne-eqb}
 use lib.Dec.{eqb}
+use Rattle.lists.proofs.Search.{first-le}
 use Rattle.contents.specs.declared.FileAnswer.the-variants.{Done, Edition, Foreign}
 use Rattle.contents.specs.Answers.{fileAnswer}
 use Rattle.contents.specs.Contents.{edition, count}
 use Rattle.contents.proofs.Answers.{passed, stopped, none-left, in-front-done, in-front-refused}
-use Rattle.contents.proofs.First.{first-le}
 use Rattle.files.specs.Files.{fileTests}
 use Rattle.canonical.specs.Canonical.{isOurs, foreign, canonicalTests}
 

@@ -10,18 +10,18 @@ use native.Mathlib.Decide.{decLt, ℕ-discrete}
 use native.Mathlib.Omega.{arith}
 use lib.Dec.{eqb}
 use borrow.Author.Tests.{eq-eqb, eqb-true}
-use Rattle.places.specs.Numbers.{Elements}
-use Rattle.places.specs.Pick.{pick, both}
+use Rattle.lists.specs.Numbers.{Elements}
+use Rattle.lists.specs.Pick.{pick, both}
+use Rattle.lists.specs.Search.{firstBad}
+use Rattle.lists.specs.Ends.{lowestOf, highestOf}
+use Rattle.lists.proofs.Tests.{both-true}
 use Rattle.places.specs.Sizes.{t64}
-use Rattle.places.proofs.Tests.{both-true}
 use Rattle.contents.specs.declared.FileAnswer.{FileAnswer}
 use Rattle.contents.specs.declared.FileAnswer.the-variants.{Done, Edition, Foreign}
 use Rattle.contents.specs.Answers.{fileAnswer, numberOf}
 use Rattle.contents.specs.Contents.{edition, count, entryOf, rangeOf}
-use Rattle.contents.specs.First.{firstBad}
 use Rattle.contents.proofs.Answers.{number-done}
-use Rattle.bodies.specs.Ranges.{lowestOf, trueRange, isRange}
-use Rattle.runs.specs.Highest.{highestOf}
+use Rattle.bodies.specs.Ranges.{trueRange, isRange}
 use Rattle.candidates.specs.Candidates.{chosen, bodyFor}
 use Rattle.files.specs.Files.{bodyOf, blockIn, rowsOf, hasTrueRange, fileTests}
 use Rattle.files.specs.Plain.{Reason}

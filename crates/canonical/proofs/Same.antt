@@ -10,8 +10,8 @@ use lib.Dec.{eqb}
 use lib.ListN.{length, getD, take, length-take}
 use lib.Seq.{ext-getD, getD-take}
 use borrow.Author.Tests.{eq-eqb, eqb-true}
-use Rattle.places.specs.Pick.{both}
-use Rattle.places.proofs.Tests.{both-true, not-then, false-true}
+use Rattle.lists.specs.Pick.{both}
+use Rattle.lists.proofs.Tests.{both-true, not-then, false-true}
 use Rattle.contents.specs.declared.Entry.{Entry}
 use Rattle.canonical.specs.Canonical.{isSameEntry, isSame}
 

@@ -4,7 +4,7 @@ use mathlib.Core.List.{List, [], _∷_, _++_}
 use Prim.Native.Nat.{ℕ, zero, suc, _<_}
 use native.Mathlib.Omega.{arith}
 use lib.ListN.{length}
-use Rattle.places.specs.Parts.{joined}
+use Rattle.lists.specs.Parts.{joined}
 use Rattle.little.specs.Little.{bytesOf, allBytes}
 use Rattle.little.proofs.Bytes.{bytes-small, all-small, below-append}
 use Rattle.contents.specs.declared.Entry.{Entry}

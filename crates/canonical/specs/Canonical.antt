@@ -5,12 +5,12 @@ use mathlib.Core.Bool.{Bool, true, false}
 use mathlib.Core.List.{List, [], _∷_, _++_}
 use Prim.Native.Nat.{ℕ}
 use lib.Dec.{eqb}
-use Rattle.places.specs.Pick.{both}
+use Rattle.lists.specs.Pick.{both}
+use Rattle.lists.specs.Search.{firstBad}
 use Rattle.contents.specs.declared.FileAnswer.the-variants.{Edition, Foreign}
 use Rattle.contents.specs.declared.Entry.{Entry}
 use Rattle.contents.specs.Answers.{FileTest}
 use Rattle.contents.specs.Contents.{edition, count, entryOf}
-use Rattle.contents.specs.First.{firstBad}
 use Rattle.candidates.specs.Candidates.{chosen, bodyFor}
 use Rattle.files.specs.Files.{bodyOf, blockIn, fileTests}
 

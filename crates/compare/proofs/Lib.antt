@@ -1,4 +1,3 @@
-pub mod Failing
 pub mod Lists
 pub mod Noted
 pub mod Ranges

@@ -1,41 +1,22 @@
 -- What is listed of two files, block by block, is the list of all rows that differ, with both numbers; and that list has every such row once,
 -- rising, and no other.
 -- Assumes nothing.
-use mathlib.Core.Bool.{Bool, true, false}
 use mathlib.Core.List.{List, [], _∷_, _++_, map, map-map}
 use mathlib.Core.Logic.{_≢_}
 use mathlib.Core.Path.{_≡_, refl, sym, ap, ap₂, subst, _∙_}
-use Prim.Native.Nat.{ℕ, zero, suc, _+_, _*_, _/_, _%_, _≤_, _<_, min}
+use Prim.Native.Nat.{ℕ, zero, suc, _+_, _*_, _/_, _%_, _<_, min}
 use native.Mathlib.Nat.{suc-mul, add-zero, zero-add, zero-mul, le-of-suc-le-suc}
 use native.Mathlib.Omega.{arith}
 use lib.Dec.{eqb}
 use lib.ListN.{length, getD, length-map}
 use borrow.Author.Tests.{eqb-false, ne-eqb}
-use Rattle.places.specs.Pick.{pick}
+use Rattle.lists.specs.Passing.{passing, failingFrom}
+use Rattle.lists.proofs.Failing.{failing-append, failing-ext, failing-shift, map-failing, failing-each, failing-rising, failing-all}
+use Rattle.lists.proofs.Passing.{map-both}
 use Rattle.contents.specs.Contents.{count}
 use Rattle.files.specs.Files.{blockIn, rowAt}
-use Rattle.compare.specs.declared.Change.{Change}
-use Rattle.compare.specs.Changes.{failingFrom, isSame, differing, changeAt, changesIn, rowsInBoth, isSameRow, changeOf, changesOf, changesTo}
-use Rattle.compare.specs.Plain.{InBoth, noChange, Listed, Lists}
-use Rattle.compare.proofs.Failing.{failing-append, failing-ext, failing-shift, failing-each, failing-rising, failing-all}
-
--- A rule for each of two lists that stand one behind the other.
-map-both : {A B : Type 0} (f : A → B) (a b : List A) → map f (a ++ b) ≡ map f a ++ map f b
-map-both f [] b = refl
-map-both f (x ∷ a) b = ap (λ l. f x ∷ l) (map-both f a b)
-
--- Two rules that agree on the places of a list of failing places.
-map-failing : {B : Type 0} (f g : ℕ → B) (test : ℕ → Bool) (s n : ℕ) → ((p : ℕ) → s ≤ p → p < s + n → f p ≡ g p)
-    → map f (failingFrom s n test) ≡ map g (failingFrom s n test)
-unfolding failingFrom
-map-failing f g test s zero same = refl
-map-failing f g test s (suc n) same =
-    go (test s) (same s (omega arith) (omega arith)) (map-failing f g test (suc s) n (λ p low high. same p (omega arith) (omega arith)))
-  where
-    go : (b : Bool) → f s ≡ g s → map f (failingFrom (suc s) n test) ≡ map g (failingFrom (suc s) n test)
-        → map f (pick b (failingFrom (suc s) n test) (s ∷ failingFrom (suc s) n test)) ≡ map g (pick b (failingFrom (suc s) n test) (s ∷ failingFrom (suc s) n test))
-    go true e rest = rest
-    go false e rest = ap₂ _∷_ e rest
+use Rattle.compare.specs.Changes.{isSame, differing, changeAt, changesIn, rowsInBoth, isSameRow, changeOf, changesOf, changesTo}
+use Rattle.compare.specs.Plain.{InBoth, noChange, Lists}
 
 -- What a rule makes of the entry at a place that is there.
 getD-map-in : {A B : Type 0} (f : A → B) (list : List A) (k : ℕ) (d : A) (e : B) → k < length list → getD (map f list) k e ≡ f (getD list k d)
@@ -67,7 +48,7 @@ module _ (l m : List ℕ) where
       (λ p _ h. ap₂ (λ a b. record { row = i * 1024 + p; left = a; right = b }) (row-of l i p (omega arith)) (row-of m i p (omega arith)))
 
   rows-to : (n : ℕ) → changesTo l m n ≡ map (changeOf l m) (failingFrom 0 (n * 1024) (isSameRow l m))
-  unfolding changesTo failingFrom
+  unfolding changesTo failingFrom passing
   rows-to zero = sym (ap (λ k. map (changeOf l m) (failingFrom 0 k (isSameRow l m))) (zero-mul 1024))
   rows-to (suc n) =
       ap₂ _++_ (rows-to n) (sym (block-rows n))
@@ -98,22 +79,22 @@ module _ (l m : List ℕ) where
   pub changes-list : Lists l m (changesOf l m)
   changes-list = record {
     complete = λ p both n.
-        let there = failing-all 0 (rowsInBoth l m) (isSameRow l m) p 0 (omega arith) (omega (arith, both .in-left, both .in-right)) (ne-eqb (rowAt l p) (rowAt m p) n) in
+        let there = failing-all 0 (rowsInBoth l m) (isSameRow l m) p (omega arith) (omega (arith, both .in-left, both .in-right)) (ne-eqb (rowAt l p) (rowAt m p) n) in
         record {
-          at = there .at;
-          within = omega (arith, long, there .within);
-          is = at (there .at) (omega (arith, long, there .within)) ∙ ap (changeOf l m) (there .is);
+          at = there .0;
+          within = omega (arith, long, there .1);
+          is = at (there .0) (omega (arith, long, there .1)) ∙ ap (changeOf l m) (there .2);
         };
     in-both = λ k h.
-        let each = failing-each 0 (rowsInBoth l m) (isSameRow l m) k 0 (omega (arith, long)) in
+        let each = failing-each 0 (rowsInBoth l m) (isSameRow l m) k (omega (arith, long)) in
         subst (λ c. InBoth l m (c .row)) (sym (at k h)) (record { in-left = omega (arith, each .high); in-right = omega (arith, each .high) });
     left-is = λ k h. subst (λ c. c .left ≡ rowAt l (c .row)) (sym (at k h)) refl;
     right-is = λ k h. subst (λ c. c .right ≡ rowAt m (c .row)) (sym (at k h)) refl;
     unequal = λ k h.
-        let each = failing-each 0 (rowsInBoth l m) (isSameRow l m) k 0 (omega (arith, long)) in
+        let each = failing-each 0 (rowsInBoth l m) (isSameRow l m) k (omega (arith, long)) in
         subst (λ c. c .left ≢ c .right) (sym (at k h)) (eqb-false (rowAt l (getD rows k 0)) (rowAt m (getD rows k 0)) (each .fails));
     rising = λ j k b h.
-        let r = failing-rising 0 (rowsInBoth l m) (isSameRow l m) j k 0 b (omega (arith, long)) in
+        let r = failing-rising 0 (rowsInBoth l m) (isSameRow l m) j k b (omega (arith, long)) in
         let first = ap (λ c. c .row) (at j (omega arith)) in
         let second = ap (λ c. c .row) (at k h) in
         omega (arith, r, first, second);

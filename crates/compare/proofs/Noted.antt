@@ -12,18 +12,19 @@ use lib.Bits.{bitOr, bitXor, bitAnd, or-add-and, and-le-l, and-le-r, xor-add-and
 use lib.Dec.{eqb}
 use lib.ListN.{length, getD, set, length-append}
 use borrow.Author.Tests.{eq-eqb, ne-eqb, eqb-true}
-use Rattle.places.specs.Tab.{over}
-use Rattle.places.proofs.Overs.{set-over, length-over, over-nothing, over-append}
-use Rattle.places.specs.Pick.{pick}
+use Rattle.lists.specs.Tab.{over}
+use Rattle.lists.specs.Pick.{pick}
+use Rattle.lists.specs.Passing.{passing, failingFrom}
+use Rattle.lists.proofs.Overs.{set-over, length-over, over-nothing, over-append}
+use Rattle.lists.proofs.Failing.{failing-passed, failing-failed, failing-few, failing-none, failing-all}
 use Rattle.contents.specs.declared.FileAnswer.{FileAnswer}
 use Rattle.contents.specs.declared.FileAnswer.the-variants.{Done}
 use Rattle.contents.specs.Answers.{fileAnswer, numberOf, isDone, left as leaves}
 use Rattle.contents.proofs.Accepted.{done-first}
 use Rattle.compare.specs.declared.Compared.{Compared}
 use Rattle.compare.specs.declared.Compared.the-variants.{Places, Refused}
-use Rattle.compare.specs.Changes.{failingFrom, isSame, differing, differingTests, comparedOf, differingLeaves}
+use Rattle.compare.specs.Changes.{isSame, differing, differingTests, comparedOf, differingLeaves}
 use Rattle.compare.specs.InnerSame.{sameOf}
-use Rattle.compare.proofs.Failing.{failing-passed, failing-failed, failing-few, failing-none, failing-all}
 
 -- ---- the joined differences
 
@@ -81,8 +82,8 @@ alike-all {left} {right} {any} {i} a h =
         go : (t : Bool) → isSame left right k ≡ t → isSame left right k ≡ true
         go true e = e
         go false e =
-            let there = failing-all 0 1024 (isSame left right) k 0 (omega arith) (omega arith) e in
-            absurd (omega (arith, there .within))
+            let there = failing-all 0 1024 (isSame left right) k (omega arith) (omega arith) e in
+            absurd (omega (arith, there .1))
 
 -- ---- the places that are written
 
@@ -94,7 +95,7 @@ pub record Noted (left right x y : List ℕ) (n i : ℕ) : Type 0 where
   pub is : y ≡ over 0 (failingFrom 0 i (isSame left right)) x
 
 pub noted-none : (left right x : List ℕ) → length x ≡ 1024 → Noted left right x x 0 0
-unfolding failingFrom
+unfolding failingFrom passing
 noted-none left right x e = record { room = e; within = omega arith; many = refl; is = sym (over-nothing 0 x) }
 
 -- fewer places are written than passed

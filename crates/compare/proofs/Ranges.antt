@@ -8,8 +8,8 @@ use Prim.Native.Nat.{ℕ, min}
 use lib.Dec.{eqb}
 use lib.ListN.{length}
 use borrow.Author.Tests.{eqb-true}
-use Rattle.places.specs.Pick.{pick}
-use Rattle.places.proofs.Tests.{both-true}
+use Rattle.lists.specs.Pick.{pick}
+use Rattle.lists.proofs.Tests.{both-true}
 use Rattle.contents.specs.declared.FileAnswer.the-variants.{Done}
 use Rattle.contents.specs.Answers.{fileAnswer}
 use Rattle.contents.specs.Contents.{count, editionOr, countOr, rangeOr, hasRightEntry, contentsTests}

@@ -6,9 +6,10 @@ use mathlib.Core.List.{List, [], _∷_, _++_, map}
 use Prim.Native.Nat.{ℕ, zero, suc, _+_, _*_, min}
 use lib.Dec.{eqb}
 use lib.ListN.{length, getD}
-use Rattle.places.specs.Takes.{long}
-use Rattle.places.specs.Pick.{pick}
-use Rattle.places.specs.Tab.{over}
+use Rattle.lists.specs.Tests.{long}
+use Rattle.lists.specs.Passing.{failingFrom}
+use Rattle.lists.specs.Pick.{pick}
+use Rattle.lists.specs.Tab.{over}
 use Rattle.contents.specs.declared.FileAnswer.{FileAnswer}
 use Rattle.contents.specs.declared.FileAnswer.the-variants.{Done, Block}
 use Rattle.contents.specs.Answers.{FileTest, fileAnswer, isDone, left as leaves}
@@ -17,11 +18,6 @@ use Rattle.files.specs.Files.{blockIn, rowAt}
 use Rattle.compare.specs.declared.Change.{Change}
 use Rattle.compare.specs.declared.Compared.{Compared}
 use Rattle.compare.specs.declared.Compared.the-variants.{Places, Refused}
-
--- These are the numbers from s on, below s + n, whose test fails, rising.
-unfoldable pub failingFrom : (s n : ℕ) (test : ℕ → Bool) → List ℕ
-failingFrom s zero test = []
-failingFrom s (suc n) test = pick (test s) (failingFrom (suc s) n test) (s ∷ failingFrom (suc s) n test)
 
 -- This test says that two lists have the same number at place i.
 abbrev pub isSame : (left right : List ℕ) (i : ℕ) → Bool

@@ -4,7 +4,7 @@ use mathlib.Core.Bool.{Bool}
 use mathlib.Core.List.{List}
 use Prim.Native.Nat.{ℕ}
 use lib.Dec.{eqb}
-use Rattle.places.specs.Pick.{both}
+use Rattle.lists.specs.Pick.{both}
 use Rattle.contents.specs.Contents.{editionOr, rangeOr}
 
 -- This test says that two files say the same of the range of block i.

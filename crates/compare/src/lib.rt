@@ -7,7 +7,7 @@ use little::pair;
 ghost use mathlib.Core.Path.{_≡_};
 ghost use Prim.Native.Nat.{min};
 ghost use lib.ListN.{length, getD};
-ghost use Rattle.places.specs.Tab.{over};
+ghost use Rattle.lists.specs.Tab.{over};
 ghost use Rattle.contents.specs.Answers.{fileAnswer};
 ghost use Rattle.contents.specs.Contents.{countOr};
 ghost use Rattle.compare.specs.Changes.{differing as differingIn, differingTests, comparedOf, differingLeaves, answerOf, countOf, changeAt};

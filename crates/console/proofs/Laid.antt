@@ -11,8 +11,8 @@ use lib.ListN.{length, set, getD, take, drop, length-take, length-drop, length-a
 use lib.Seq.{length-take-le, take-all, take-suc, drop-length}
 use borrow.Author.Tests.{le-leb, lt-leb}
 use borrow.Rule.Slice.PartMut.{putMid, post-is}
-use Rattle.places.specs.Tab.{over}
-use Rattle.places.proofs.Overs.{over-append, length-over, over-nothing, over-tail, set-over}
+use Rattle.lists.specs.Tab.{over}
+use Rattle.lists.proofs.Overs.{over-append, length-over, over-nothing, over-tail, set-over}
 use Rattle.decimal.specs.Calls.{laidOf, layLeaves}
 use Rattle.decimal.specs.Decimal.{textOf}
 use Rattle.console.specs.Lines.{behind, withText, fitting, numberAt, timesOf, spacesOf, wideAt}

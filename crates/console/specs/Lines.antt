@@ -5,8 +5,8 @@ use mathlib.Core.List.{List, [], _++_}
 use Prim.Native.Nat.{ℕ, _+_, _-_}
 use lib.Dec.{leb}
 use lib.ListN.{length, take}
-use Rattle.places.specs.Pick.{pick}
-use Rattle.places.specs.Tab.{tab, over}
+use Rattle.lists.specs.Pick.{pick}
+use Rattle.lists.specs.Tab.{tab, over}
 use Rattle.decimal.specs.Decimal.{textOf}
 
 -- The place behind a text that was laid,

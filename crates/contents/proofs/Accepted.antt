@@ -8,14 +8,14 @@ use native.Mathlib.Omega.{arith}
 use lib.Dec.{eqb, leb}
 use lib.ListN.{length}
 use borrow.Author.Tests.{leb-true, eqb-true}
-use Rattle.places.specs.Pick.{both, either}
-use Rattle.places.proofs.Tests.{both-true, false-true}
+use Rattle.lists.specs.Pick.{both, either}
+use Rattle.lists.proofs.Tests.{both-true, false-true}
+use Rattle.lists.proofs.Search.{first-only, first-before}
 use Rattle.contents.specs.declared.FileAnswer.the-variants.{Done}
 use Rattle.contents.specs.Answers.{FileTest, fileAnswer, isDone}
 use Rattle.contents.specs.Contents.{edition, count, contentsSize, entryOf, rangeOf, isLaidOut, isTakenIn, isOrdered, isRight, badEntry, bodyStart, contentsTests}
 use Rattle.contents.proofs.Answers.{passed, stopped, none-left, refuses, refuses-first, in-front-done}
 use Rattle.contents.proofs.Checks.{Known, true-known, entries-there, entries-done}
-use Rattle.contents.proofs.First.{first-only, first-before}
 
 -- A call that is done has passed its first test, and is done with the others.
 pub done-first : (x : FileTest) (xs : List FileTest) → isDone (x .1) ≡ false → fileAnswer (x ∷ xs) ≡ Done → (x .0 ≡ true) × (fileAnswer xs ≡ Done)

@@ -4,12 +4,11 @@
 use mathlib.Core.Bool.{Bool, true, false}
 use mathlib.Core.List.{List, [], _∷_, _++_}
 use mathlib.Core.Path.{_≡_, refl, sym, ap, _∙_}
-use native.Mathlib.Decide.{ℕ-discrete}
 use native.Mathlib.Omega.{arith}
-use borrow.Author.Tests.{eq-eqb, ne-eqb}
-use Rattle.places.specs.Answers.{unless}
-use Rattle.places.specs.Pick.{pick}
-use Rattle.places.proofs.Tests.{false-true}
+use Rattle.lists.specs.Tests.{unless}
+use Rattle.lists.specs.Pick.{pick}
+use Rattle.lists.proofs.Tests.{false-true}
+use Rattle.lists.proofs.Answers as every
 use Rattle.contents.specs.declared.FileAnswer.{FileAnswer}
 use Rattle.contents.specs.declared.FileAnswer.the-variants.{Done, Block, Cut, Edition, BadEntry, Over, Beyond, Runs, Room, Range, Foreign}
 use Rattle.contents.specs.Answers.{FileTest, fileAnswer, numberOf, isDone, left}
@@ -63,7 +62,7 @@ in-front-refused (x ∷ xs) ys n = go (x .0) refl (in-front-refused xs ys)
 
 -- After every refusal, that is after every number but 0, a lent buffer holds what it held.
 pub left-refused : {A : Type 0} (a : FileAnswer) (new old : A) → (numberOf a ≡ 0 → ⊥) → left a new old ≡ old
-left-refused a new old h = simp (ne-eqb (numberOf a) 0 h)
+left-refused = every.left-refused numberOf
 
 -- Done is the answer with number 0.
 pub number-done : (a : FileAnswer) → numberOf a ≡ 0 → a ≡ Done
@@ -82,8 +81,4 @@ number-done (Foreign p) e = absurd (omega arith)
 -- What is given back is something where the answer is done and the refusal where it is not, so it says the answer.
 pub says-answer : {R : Type 0} (answerOf : R → FileAnswer) (done : R) (refused : FileAnswer → R)
     → answerOf done ≡ Done → ((a : FileAnswer) → answerOf (refused a) ≡ a) → (a : FileAnswer) → answerOf (pick (isDone a) done (refused a)) ≡ a
-says-answer answerOf done refused of-done of-refused a =
-    elim (ℕ-discrete (numberOf a) 0) [
-      | yes zero ↦ ap (λ b. answerOf (pick b done (refused a))) (eq-eqb (numberOf a) 0 zero) ∙ of-done ∙ sym (number-done a zero)
-      | no other ↦ ap (λ b. answerOf (pick b done (refused a))) (ne-eqb (numberOf a) 0 other) ∙ of-refused a
-    ]
+says-answer answerOf done refused = every.says-answer numberOf Done number-done done refused answerOf

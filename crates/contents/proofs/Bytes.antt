@@ -10,9 +10,9 @@ use native.Mathlib.Omega.{arith}
 use borrow.Author.Tests.{le-leb, lt-leb}
 use lib.ListN.{length, getD, set, length-append}
 use lib.Seq.{getD-append-add, sets-eq}
-use Rattle.places.specs.Pick.{pick}
-use Rattle.places.specs.Tab.{over}
-use Rattle.places.proofs.Overs.{over-append, length-over}
+use Rattle.lists.specs.Pick.{pick}
+use Rattle.lists.specs.Tab.{over}
+use Rattle.lists.proofs.Overs.{over-append, length-over}
 use Rattle.little.specs.Little.{little, bytesOf, putLeaves}
 use Rattle.little.proofs.Bytes.{length-bytes, little-bytes, put-within}
 use Rattle.little.proofs.Little.{little-past}

@@ -9,8 +9,8 @@ use native.Mathlib.Omega.{arith}
 use lib.Dec.{eqb, leb}
 use lib.ListN.{length}
 use borrow.Author.Tests.{le-leb, lt-leb, eq-eqb, ne-eqb, eqb-true, eqb-false}
-use Rattle.places.specs.Pick.{both, either}
-use Rattle.places.proofs.Tests.{false-true}
+use Rattle.lists.specs.Pick.{both, either}
+use Rattle.lists.proofs.Tests.{false-true}
 use Rattle.contents.specs.declared.FileAnswer.the-variants.{Done, Cut, Edition, BadEntry, Over}
 use Rattle.contents.specs.Answers.{fileAnswer}
 use Rattle.contents.specs.Contents.{edition, count, contentsSize, badEntry, bodyStart, entriesTests, contentsTests}

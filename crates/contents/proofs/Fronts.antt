@@ -14,15 +14,15 @@ use lib.Dec.{eqb, leb}
 use lib.ListN.{length, take, length-take}
 use lib.Seq.{getD-take}
 use borrow.Author.Tests.{eqb-true}
-use Rattle.places.specs.Pick.{pick, both}
+use Rattle.lists.specs.Pick.{pick, both}
+use Rattle.lists.specs.Search.{firstBad}
+use Rattle.lists.proofs.Search.{first-ext}
 use Rattle.little.specs.Little.{little}
 use Rattle.contents.specs.declared.FileAnswer.the-variants.{BadEntry, Cut, Over}
 use Rattle.contents.specs.Answers.{fileAnswer}
 use Rattle.contents.specs.Contents.{edition, count, contentsSize, entryAt, entryOf, entryOr, rangeAt, anyRange, rangeOf, rangeOr, isLaidOut, isTakenIn, isOrdered, isRight, hasRightEntry, badEntry, bodiesSize, bodyStart, entriesTests, contentsTests}
-use Rattle.contents.specs.First.{firstBad}
 use Rattle.contents.proofs.Checks.{Known, known-or-not, short-head, other-edition, many-blocks, short-entries, entries-there}
 use Rattle.contents.proofs.Entries.{entry-there, range-there, right-there}
-use Rattle.contents.proofs.First.{first-ext}
 use Rattle.contents.proofs.Sizes.{size-entry, size-range, size-before}
 
 -- A number is the same in a front that has its bytes.

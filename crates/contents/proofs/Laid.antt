@@ -7,8 +7,8 @@ use Prim.Native.Nat.{ℕ, _+_, _*_, _-_, _/_, _%_, _≤_, _<_}
 use native.Mathlib.Omega.{arith}
 use lib.Dec.{eqb, leb, ltb}
 use borrow.Author.Tests.{eq-eqb, le-leb, lt-ltb, leb-true, ltb-true, eqb-true, eqb-false}
-use Rattle.places.specs.Pick.{pick, both}
-use Rattle.places.proofs.Tests.{both-true, false-true}
+use Rattle.lists.specs.Pick.{pick, both}
+use Rattle.lists.proofs.Tests.{both-true, false-true}
 use Rattle.contents.specs.declared.Entry.{Entry}
 use Rattle.contents.specs.Contents.{isPacked, isRuns, isOfKind, isLaidOut, isTakenIn}
 use Rattle.contents.specs.Plain.{RunLength, LaidOut, TakenIn}

@@ -3,7 +3,6 @@ pub mod Answers
 pub mod Bytes
 pub mod Checks
 pub mod Entries
-pub mod First
 pub mod Fronts
 pub mod Laid
 pub mod Parts

@@ -6,8 +6,8 @@ use mathlib.Core.Bool.{Bool}
 use mathlib.Core.List.{List}
 use Prim.Native.Nat.{ℕ}
 use lib.Dec.{eqb}
-use Rattle.places.specs.Answers.{Test, firstRefusal}
-use Rattle.places.specs.Pick.{pick}
+use Rattle.lists.specs.Tests.{Test, firstRefusal}
+use Rattle.lists.specs.Pick.{pick}
 use Rattle.contents.specs.declared.FileAnswer.{FileAnswer}
 use Rattle.contents.specs.declared.FileAnswer.the-variants.{Done, Block, Cut, Edition, BadEntry, Over, Beyond, Runs, Room, Range, Foreign}
 

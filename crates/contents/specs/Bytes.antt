@@ -4,8 +4,8 @@ use mathlib.Core.List.{List, [], _∷_, _++_}
 use Prim.Native.Nat.{ℕ, _+_}
 use lib.Dec.{leb}
 use lib.ListN.{length}
-use Rattle.places.specs.Pick.{pick}
-use Rattle.places.specs.Tab.{over}
+use Rattle.lists.specs.Pick.{pick}
+use Rattle.lists.specs.Tab.{over}
 use Rattle.little.specs.Little.{bytesOf}
 use Rattle.contents.specs.declared.Entry.{Entry}
 use Rattle.contents.specs.declared.Range.{Range}

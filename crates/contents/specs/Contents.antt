@@ -8,14 +8,14 @@ use mathlib.Core.List.{List, [], _∷_}
 use Prim.Native.Nat.{ℕ, zero, suc, _+_, _*_, _%_}
 use lib.Dec.{eqb, leb, ltb}
 use lib.ListN.{length, getD}
-use Rattle.places.specs.Pick.{pick, both, either}
+use Rattle.lists.specs.Pick.{pick, both, either}
+use Rattle.lists.specs.Search.{firstBad}
 use Rattle.places.specs.Sizes.{largestU64}
 use Rattle.little.specs.Little.{little, littleOr}
 use Rattle.contents.specs.declared.FileAnswer.the-variants.{BadEntry, Cut, Edition, Over}
 use Rattle.contents.specs.declared.Entry.{Entry}
 use Rattle.contents.specs.declared.Range.{Range}
 use Rattle.contents.specs.Answers.{FileTest}
-use Rattle.contents.specs.First.{firstBad}
 
 -- The edition is the first number of two bytes,
 abbrev pub edition : List ℕ → ℕ

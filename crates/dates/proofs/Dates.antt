@@ -12,17 +12,17 @@ use lib.Dec.{eqb, lit<}
 use lib.ListN.{length, getD}
 use lib.Pow.{pow-pos}
 use lib.Seq.{ext-getD}
+use Rattle.lists.specs.Numbers.{minus}
+use Rattle.lists.specs.Pick.{pick}
+use Rattle.lists.specs.Tab.{tab}
+use Rattle.lists.proofs.Digits.{elements-of}
+use Rattle.lists.proofs.Every.{Same, same}
+use Rattle.lists.proofs.Tabs.{getD-tab, length-tab}
 use Rattle.places.specs.Answers.{left}
-use Rattle.places.specs.Numbers.{minus}
-use Rattle.places.specs.Pick.{pick}
 use Rattle.places.specs.Places.{order, place, lane, row, source, target}
 use Rattle.places.specs.Sizes.{t8, t16, t32, t64, Size, lanes}
-use Rattle.places.specs.Tab.{tab}
 use Rattle.places.specs.Transposes.{transposeOf, transposeLeaves}
-use Rattle.places.proofs.Digits.{elements-of}
-use Rattle.places.proofs.Every.{Same, same}
 use Rattle.places.proofs.Places.{each, size-some, size-lanes, place-lt, lane-lt, row-lt, place-row-lane, source-lt, source-target, target-lt}
-use Rattle.places.proofs.Tabs.{getD-tab, length-tab}
 use Rattle.places.proofs.Walks.{good-blocks}
 use Rattle.deltas.specs.Deltas.{deltaOf}
 use Rattle.deltas.proofs.Answers.{delta-good, delta-leaves}

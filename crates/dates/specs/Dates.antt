@@ -44,12 +44,12 @@ use mathlib.Core.Path.{_≡_}
 use Prim.Native.Nat.{ℕ, zero, suc, _+_, _-_, _%_, _≤_, _<_}
 use lib.Dec.{eqb}
 use lib.ListN.{length, getD}
+use Rattle.lists.specs.Numbers.{minus, Elements}
+use Rattle.lists.specs.Pick.{pick}
+use Rattle.lists.specs.Tab.{tab}
 use Rattle.places.specs.declared.Answer.the-variants.{Done}
-use Rattle.places.specs.Numbers.{minus, Elements}
-use Rattle.places.specs.Pick.{pick}
 use Rattle.places.specs.Places.{place, source, target}
 use Rattle.places.specs.Sizes.{Size, lanes}
-use Rattle.places.specs.Tab.{tab}
 use Rattle.places.specs.Takes.{answerFor}
 use Rattle.places.specs.Transposes.{transposeTakes, transposeLeaves}
 use Rattle.deltas.specs.Calls.{deltaTakes, deltaLeaves}

@@ -10,8 +10,8 @@ use native.Mathlib.Omega.{arith}
 use lib.Dec.{ltb}
 use lib.ListN.{length, length-append}
 use borrow.Author.Tests.{lt-ltb, le-ltb, ltb-true, ltb-false}
-use Rattle.places.specs.Pick.{pick}
-use Rattle.places.specs.Search.{firstBeyond}
+use Rattle.lists.specs.Pick.{pick}
+use Rattle.lists.specs.Search.{firstFailing, firstBeyond}
 use Rattle.decimal.specs.Decimal.{valueFrom, valueOf, digitsWithin, digitsIn}
 
 -- ---- the digits of a number
@@ -74,7 +74,7 @@ value-digits n = value-within n n
 
 -- One digit more, at the end.
 below-last : (x : List ℕ) (d : ℕ) → firstBeyond 10 x ≡ length x → d < 10 → firstBeyond 10 (x ++ (d ∷ [])) ≡ length (x ++ (d ∷ []))
-unfolding firstBeyond
+unfolding firstBeyond firstFailing
 below-last [] d e h = rw (lt-ltb d 10 h)
 below-last (y ∷ x) d e h = go (ltb y 10) e (λ f. below-last x d f h)
   where
@@ -85,7 +85,7 @@ below-last (y ∷ x) d e h = go (ltb y 10) e (λ f. below-last x d f h)
     go false e rest = absurd (omega arith)
 
 below-within : (k n : ℕ) → n ≤ k → firstBeyond 10 (digitsWithin k n) ≡ length (digitsWithin k n)
-unfolding digitsWithin firstBeyond
+unfolding digitsWithin firstBeyond firstFailing
 below-within zero n h = rw (lt-ltb n 10 (omega arith))
 below-within (suc k) n h = go (ltb n 10) refl (λ many. below-within k (n / 10) (omega arith))
   where
@@ -103,7 +103,7 @@ digits-below n = below-within n n (omega arith)
 
 -- Digits behind a number that is not 0 stand behind its digits.
 digits-behind : (v : ℕ) (x : List ℕ) → 1 ≤ v → firstBeyond 10 x ≡ length x → digitsIn (valueFrom v x) ≡ digitsIn v ++ x
-unfolding valueFrom firstBeyond
+unfolding valueFrom firstBeyond firstFailing
 digits-behind v [] h all = sym (append-nil (digitsIn v))
 digits-behind v (d ∷ x) h all = go (ltb d 10) refl all (λ rest. digits-behind (v * 10 + d) x (omega arith) rest)
   where
@@ -121,7 +121,7 @@ digits-behind v (d ∷ x) h all = go (ltb d 10) refl all (λ rest. digits-behind
 
 -- Digits with no zero at the front are those of their number.
 pub digits-value : (d : ℕ) (x : List ℕ) → 1 ≤ d → firstBeyond 10 (d ∷ x) ≡ length (d ∷ x) → digitsIn (valueOf (d ∷ x)) ≡ d ∷ x
-unfolding valueFrom firstBeyond
+unfolding valueFrom firstBeyond firstFailing
 digits-value d x h all = go (ltb d 10) refl all
   where
     go : (t : Bool) → ltb d 10 ≡ t → pick t (suc (firstBeyond 10 x)) 0 ≡ suc (length x) → digitsIn (valueFrom (0 * 10 + d) x) ≡ d ∷ x

@@ -11,11 +11,11 @@ use lib.Dec.{leb, ltb, eqb}
 use lib.ListN.{length, getD, set, drop, length-append, length-map}
 use lib.Seq.{drop-cons, drop-length}
 use borrow.Author.Tests.{lt-ltb, le-ltb, le-leb, ne-eqb, ltb-true, ltb-false, leb-true, leb-false, eqb-false}
-use Rattle.places.specs.Pick.{pick}
-use Rattle.places.specs.Search.{firstBeyond}
-use Rattle.places.specs.Tab.{over}
-use Rattle.places.proofs.Search.{first-beyond-le, first-beyond-before}
-use Rattle.places.proofs.Overs.{set-over, over-append, over-apart}
+use Rattle.lists.specs.Pick.{pick}
+use Rattle.lists.specs.Search.{firstFailing, firstBeyond}
+use Rattle.lists.specs.Tab.{over}
+use Rattle.lists.proofs.Search.{first-beyond-le, first-beyond-before}
+use Rattle.lists.proofs.Overs.{set-over, over-append, over-apart}
 use Rattle.decimal.specs.declared.Parsed.the-variants.{Number, Empty, Other, Large}
 use Rattle.decimal.specs.Decimal.{digitOf, digitsOf, valueFrom, valueOf, digitsIn, textOf, Bare}
 use Rattle.decimal.specs.Calls.{digitsOr, parsedOf, laidOf}
@@ -166,7 +166,7 @@ same-byte b h = go (leb 48 b) refl h
     go false e h = absurd (omega arith)
 
 same-bytes : (text : List ℕ) → firstBeyond 10 (map digitOf text) ≡ length (map digitOf text) → map byte (map digitOf text) ≡ text
-unfolding firstBeyond
+unfolding firstBeyond firstFailing
 same-bytes [] e = refl
 same-bytes (b ∷ text) e = go (ltb (digitOf b) 10) refl e (λ rest. same-bytes text rest)
   where

@@ -4,9 +4,9 @@ use mathlib.Core.List.{List}
 use Prim.Native.Nat.{ℕ}
 use lib.Dec.{eqb, leb, ltb}
 use lib.ListN.{length}
-use Rattle.places.specs.Pick.{pick}
-use Rattle.places.specs.Search.{firstBeyond}
-use Rattle.places.specs.Tab.{over}
+use Rattle.lists.specs.Pick.{pick}
+use Rattle.lists.specs.Search.{firstBeyond}
+use Rattle.lists.specs.Tab.{over}
 use Rattle.decimal.specs.declared.Parsed.{Parsed}
 use Rattle.decimal.specs.declared.Parsed.the-variants.{Number, Empty, Other, Large}
 use Rattle.decimal.specs.Decimal.{digitsOf, valueOf, textOf}

@@ -6,7 +6,7 @@ use mathlib.Core.Path.{_≡_}
 use Prim.Native.Nat.{ℕ, zero, suc, _+_, _*_, _-_, _/_, _%_}
 use lib.Dec.{leb, ltb}
 use lib.ListN.{length, getD}
-use Rattle.places.specs.Pick.{pick}
+use Rattle.lists.specs.Pick.{pick}
 
 -- This is the digit that a byte stands for, and 10 or more where it stands for none: 48 is 0, and 57 is 9.
 abbrev pub digitOf : (byte : ℕ) → ℕ

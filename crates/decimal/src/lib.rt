@@ -4,8 +4,8 @@
 ghost use mathlib.Core.Path.{_≡_};
 ghost use Prim.Native.Nat.{_+_, _≤_};
 ghost use lib.ListN.{length};
-ghost use Rattle.places.specs.Search.{firstBeyond};
-ghost use Rattle.places.specs.Tab.{over};
+ghost use Rattle.lists.specs.Search.{firstBeyond};
+ghost use Rattle.lists.specs.Tab.{over};
 ghost use Rattle.decimal.specs.Decimal.{digitOf, digitsOf, textOf};
 ghost use Rattle.decimal.specs.Calls.{numberOr, parsedOf, laidOf, layLeaves};
 

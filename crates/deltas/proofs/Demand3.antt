@@ -17,15 +17,15 @@ use native.Mathlib.Nat.{mod-lt, mod-eq-of-lt, lt-of-lt-of-le}
 use native.Mathlib.Omega.{arith}
 use lib.ListN.{length, getD}
 use lib.Pow.{pow-pos, pow-mono}
+use Rattle.lists.specs.Tab.{tab}
+use Rattle.lists.specs.Numbers.{digit, plus, minus, Elements}
+use Rattle.lists.proofs.Tabs.{getD-tab, length-tab, tab-ext}
 use Rattle.places.specs.declared.Answer.the-variants.{Done}
 use Rattle.places.specs.Places.{place, lane, row}
 use Rattle.places.specs.Sizes.{Size, lanes}
-use Rattle.places.specs.Tab.{tab}
 use Rattle.places.specs.Takes.{answerFor}
 use Rattle.places.proofs.Places.{lane-lt, row-lt}
-use Rattle.places.proofs.Tabs.{getD-tab, length-tab, tab-ext}
 use Rattle.packing.specs.Calls.{packTakes, packLeaves, unpackLeaves}
-use Rattle.places.specs.Numbers.{digit, plus, minus, Elements}
 use Rattle.packing.specs.Packed.{wordsNumber, packOf, unpackOf}
 use Rattle.packing.proofs.Answers.{good-block, pack-leaves, unpack-leaves}
 use Rattle.packing.proofs.Rounds.{length-pack, length-unpack, unpack-at, unpack-pack, restores}

@@ -13,15 +13,15 @@ use lib.ListN.{length, getD}
 use lib.Pow.{pow-pos, pow-mono}
 use lib.Seq.{ext-getD}
 use borrow.Author.Tests.{ne-eqb}
-use Rattle.places.specs.Pick.{pick}
+use Rattle.lists.specs.Pick.{pick}
+use Rattle.lists.specs.Tab.{tab}
+use Rattle.lists.specs.Numbers.{digit, plus, minus, Elements}
+use Rattle.lists.proofs.Tabs.{getD-tab, length-tab, tab-ext}
+use Rattle.lists.proofs.Digits.{elements-of}
 use Rattle.places.specs.Places.{place, lane, row}
 use Rattle.places.specs.Sizes.{Size, lanes}
-use Rattle.places.specs.Tab.{tab}
 use Rattle.places.proofs.Places.{size-some, place-row-lane, lane-lt, row-lt, lane-place, row-place, place-lt}
-use Rattle.places.proofs.Tabs.{getD-tab, length-tab, tab-ext}
 use Rattle.rows.proofs.Rows.{sub-wraps}
-use Rattle.places.specs.Numbers.{digit, plus, minus, Elements}
-use Rattle.places.proofs.Digits.{elements-of}
 use Rattle.packing.specs.Packed.{wordsNumber, unpackOf}
 use Rattle.packing.proofs.Rounds.{length-pack, length-unpack, unpack-at, unpack-fits, value-place}
 use Rattle.deltas.specs.Deltas.{before, deltaOf, summed, undeltaOf, frameOf, forPackOf}

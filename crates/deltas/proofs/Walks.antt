@@ -7,11 +7,12 @@ use native.Mathlib.Nat.{zero-add, add-zero, add-suc, sub-zero}
 use native.Mathlib.Numerals.{add-one}
 use native.Mathlib.Omega.{arith}
 use lib.ListN.{length, getD}
+use Rattle.lists.specs.Tab.{tab}
+use Rattle.lists.specs.Numbers.{plus, minus}
+use Rattle.lists.proofs.Tabs.{getD-tab, tab-ext, tab-getD}
 use Rattle.places.specs.Places.{place, lane, row}
 use Rattle.places.specs.Sizes.{Size, lanes}
-use Rattle.places.specs.Tab.{tab}
 use Rattle.places.proofs.Places.{lane-place, row-place, lane-lt, place-lt}
-use Rattle.places.proofs.Tabs.{getD-tab, tab-ext, tab-getD}
 use Rattle.rows.specs.InnerBlocks.{rowsOver}
 use Rattle.rows.specs.Rows.{splatOf, loadOf, addOf, subOf}
 use Rattle.rows.proofs.Blocks.{rows-after, rows-agree, Rewritten}
@@ -19,7 +20,6 @@ use Rattle.rows.proofs.Rows.{load-room, add-tab, sub-tab}
 use Rattle.packing.specs.Packed.{valueAt, unpackOf}
 use Rattle.packing.proofs.Turns.{rowFrom, rowOf, row-from}
 use Rattle.deltas.specs.Deltas.{before, summed, undeltaOf, frameOf}
-use Rattle.places.specs.Numbers.{plus, minus}
 use Rattle.deltas.specs.InnerWalks.{sumTo, sumRow, sumAt}
 use Rattle.deltas.proofs.Lanes.{minus-lt, delta-row-first, delta-row-next}
 

@@ -5,10 +5,10 @@ use mathlib.Core.List.{List}
 use Prim.Native.Nat.{ℕ, zero, suc, _-_}
 use lib.Dec.{eqb}
 use lib.ListN.{getD}
-use Rattle.places.specs.Numbers.{digit, plus, minus}
-use Rattle.places.specs.Pick.{pick}
+use Rattle.lists.specs.Numbers.{digit, plus, minus}
+use Rattle.lists.specs.Pick.{pick}
+use Rattle.lists.specs.Tab.{tab}
 use Rattle.places.specs.Places.{place, lane, row}
-use Rattle.places.specs.Tab.{tab}
 use Rattle.packing.specs.Packed.{wordsNumber, packOf, valueAt}
 
 -- Before place p stands the base of its lane where p is in row 0, and else the value of the lane's row before.

@@ -3,10 +3,10 @@
 use mathlib.Core.List.{List}
 use Prim.Native.Nat.{ℕ, zero, suc, _+_, _-_}
 use lib.ListN.{getD}
+use Rattle.lists.specs.Tab.{tab}
+use Rattle.lists.specs.Numbers.{plus}
 use Rattle.places.specs.Places.{place, lane, row}
 use Rattle.places.specs.Sizes.{lanes}
-use Rattle.places.specs.Tab.{tab}
-use Rattle.places.specs.Numbers.{plus}
 
 -- This is the sum along a lane after n rows, and the base where there are none yet.
 unfoldable pub sumTo : (t : ℕ) (f : ℕ → ℕ) (b n : ℕ) → ℕ

@@ -5,9 +5,9 @@ use mathlib.Core.Path.{_≡_}
 use Prim.Native.Nat.{ℕ, _+_, _*_, _≤_}
 use lib.ListN.{length, take, drop}
 use borrow.Rule.Slice.PartMut.{putMid}
-use Rattle.places.specs.Parts.{cut}
+use Rattle.lists.specs.Parts.{cut}
+use Rattle.lists.specs.Tab.{over}
 use Rattle.places.specs.Sizes.{lanes}
-use Rattle.places.specs.Tab.{over}
 use Rattle.packing.specs.Calls.{unpackLeaves}
 use Rattle.packing.specs.Packed.{unpackOf}
 use Rattle.packing.proofs.Answers.{unpack-leaves}

@@ -10,14 +10,14 @@ use native.Mathlib.Omega.{arith}
 use lib.Arith.{digits-div}
 use lib.ListN.{length, take, drop, length-drop}
 use lib.Seq.{length-take-le}
+use Rattle.lists.specs.Parts.{cut, joined}
+use Rattle.lists.proofs.Parts.{length-cut}
 use Rattle.places.specs.declared.Answer.{Answer}
 use Rattle.places.specs.declared.Answer.the-variants.{Done}
 use Rattle.places.specs.Answers.{numberOf, left}
-use Rattle.places.specs.Parts.{cut, joined}
 use Rattle.places.specs.Sizes.{lanes}
 use Rattle.places.specs.Takes.{answerFor}
 use Rattle.places.proofs.Answers.{left-refused, number-done}
-use Rattle.places.proofs.Parts.{length-cut}
 use Rattle.packing.specs.Calls.{packTakes, unpackLeaves}
 use Rattle.packing.specs.Packed.{unpackOf}
 use Rattle.packing.proofs.Answers.{bad-block, good-block, unpack-leaves, bad-width as block-width, bad-packed as block-packed}

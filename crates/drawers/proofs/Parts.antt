@@ -9,11 +9,11 @@ use native.Mathlib.Omega.{arith}
 use lib.ListN.{length, take, drop, length-append, length-take, length-drop}
 use lib.Seq.{drop-drop, drop-length, take-all, take-take, take-append-seam, drop-append-seam}
 use borrow.Rule.Slice.PartMut.{putMid}
-use Rattle.places.specs.Parts.{cut, joined}
-use Rattle.places.specs.Tab.{over}
-use Rattle.places.proofs.Overs.{over-append, over-nothing}
-use Rattle.places.proofs.Parts.{length-joined, joined-at}
-use Rattle.places.proofs.Tabs.{length-over}
+use Rattle.lists.specs.Parts.{cut, joined}
+use Rattle.lists.specs.Tab.{over}
+use Rattle.lists.proofs.Overs.{over-append, over-nothing}
+use Rattle.lists.proofs.Parts.{length-joined, joined-at}
+use Rattle.lists.proofs.Tabs.{length-over}
 use Rattle.drawers.specs.Drawers.{eachPart}
 
 -- part b of m parts of n entries lies within them

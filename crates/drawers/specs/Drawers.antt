@@ -3,13 +3,13 @@
 use mathlib.Core.List.{List, [], _∷_}
 use Prim.Native.Nat.{ℕ, _*_}
 use lib.Dec.{leb}
+use Rattle.lists.specs.Tests.{Test, firstRefusal, long}
+use Rattle.lists.specs.Parts.{cut, joined}
+use Rattle.lists.specs.Pick.{both}
 use Rattle.places.specs.declared.Answer.{Answer}
 use Rattle.places.specs.declared.Answer.the-variants.{Done, Width, Block, Packed}
-use Rattle.places.specs.Answers.{Test, firstRefusal, left}
-use Rattle.places.specs.Parts.{cut, joined}
-use Rattle.places.specs.Pick.{both}
+use Rattle.places.specs.Answers.{left}
 use Rattle.places.specs.Sizes.{lanes}
-use Rattle.places.specs.Takes.{long}
 use Rattle.packing.specs.Packed.{unpackOf}
 use Rattle.deltas.specs.Deltas.{forPackOf}
 

@@ -9,8 +9,8 @@ use native.Mathlib.Omega.{arith}
 use lib.Dec.{ltb}
 use lib.ListN.{length, getD, replicate}
 use borrow.Author.Tests.{lt-ltb, le-ltb, eq-eqb, ne-eqb}
-use Rattle.places.specs.Answers.{unless}
-use Rattle.places.specs.Pick.{pick}
+use Rattle.lists.specs.Tests.{unless}
+use Rattle.lists.specs.Pick.{pick}
 use Rattle.contents.specs.declared.FileAnswer.{FileAnswer}
 use Rattle.contents.specs.declared.FileAnswer.the-variants.{Done, Block, Beyond, Runs}
 use Rattle.contents.specs.Answers.{FileTest, fileAnswer, numberOf, isDone, left}

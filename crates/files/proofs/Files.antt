@@ -8,12 +8,12 @@ use native.Mathlib.Omega.{arith}
 use lib.ListN.{length, take, drop, length-take, length-drop}
 use lib.Dec.{eqb}
 use borrow.Author.Tests.{le-leb, eq-eqb}
-use Rattle.places.specs.Pick.{pick}
+use Rattle.lists.specs.Pick.{pick}
+use Rattle.lists.proofs.Search.{first-only}
 use Rattle.contents.specs.declared.FileAnswer.the-variants.{Done, Runs}
 use Rattle.contents.specs.Answers.{fileAnswer, isDone, left}
 use Rattle.contents.specs.Contents.{count, entryOf, bodyStart, contentsTests}
 use Rattle.contents.proofs.Answers.{passed, stopped, none-left}
-use Rattle.contents.proofs.First.{first-only}
 use Rattle.bodies.specs.Bodies.{blockOf, hasGoodRuns, bodyTests, blockTests, blockLeaves}
 use Rattle.bodywise.proofs.Told.{body-ends, body-laid}
 use Rattle.files.specs.Files.{bodyOf, blockIn, badRuns}

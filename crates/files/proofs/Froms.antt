@@ -7,7 +7,7 @@ use Prim.Native.Nat.{ℕ, _+_, _<_}
 use native.Mathlib.Omega.{arith}
 use lib.ListN.{length, take, drop, replicate}
 use borrow.Author.Tests.{eq-eqb, le-leb}
-use Rattle.places.specs.Pick.{pick}
+use Rattle.lists.specs.Pick.{pick}
 use Rattle.contents.specs.declared.FileAnswer.the-variants.{Done, Runs}
 use Rattle.contents.specs.Answers.{fileAnswer, isDone}
 use Rattle.contents.specs.Contents.{edition, count, entryOr, rangeOf, bodyStart, contentsTests}

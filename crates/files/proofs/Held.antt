@@ -11,16 +11,16 @@ use native.Mathlib.Omega.{arith}
 use lib.Dec.{eqb, ltb}
 use lib.ListN.{length}
 use borrow.Author.Tests.{eq-eqb, ne-eqb, ltb-true}
-use Rattle.places.specs.Pick.{pick}
-use Rattle.places.proofs.Tests.{false-true}
+use Rattle.lists.specs.Pick.{pick}
+use Rattle.lists.specs.Search.{firstBad}
+use Rattle.lists.proofs.Tests.{false-true}
+use Rattle.lists.proofs.Search.{first-only}
 use Rattle.contents.specs.declared.FileAnswer.{FileAnswer}
 use Rattle.contents.specs.declared.FileAnswer.the-variants.{Done, Runs, Range}
 use Rattle.contents.specs.Answers.{fileAnswer, numberOf, left}
 use Rattle.contents.specs.Contents.{edition, count, entryOf, entryOr, rangeOf, contentsTests}
-use Rattle.contents.specs.First.{firstBad}
 use Rattle.contents.proofs.Accepted.{whole-taken}
 use Rattle.contents.proofs.Answers.{passed, stopped, none-left, in-front-done, in-front-refused, number-done}
-use Rattle.contents.proofs.First.{first-only}
 use Rattle.bodies.specs.Bodies as Bodies
 use Rattle.bodies.specs.Bodies.{blockOf}
 use Rattle.bodies.specs.Ranges.{isRange}

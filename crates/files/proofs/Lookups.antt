@@ -6,9 +6,9 @@ use mathlib.Core.Path.{_≡_, refl, sym, ap, _∙_}
 use Prim.Native.Nat.{ℕ, _+_, _-_, _*_, _/_, _%_, _≤_, _<_}
 use native.Mathlib.Omega.{arith}
 use lib.ListN.{length}
+use Rattle.lists.proofs.Tabs.{getD-tab}
 use Rattle.places.specs.Places.{lane, order, row}
 use Rattle.places.specs.Sizes.{t64}
-use Rattle.places.proofs.Tabs.{getD-tab}
 use Rattle.packing.specs.Packed.{word}
 use Rattle.packing.proofs.Turns.{word-room}
 use Rattle.little.specs.Little.{little, numbersOf}

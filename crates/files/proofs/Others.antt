@@ -9,14 +9,14 @@ use native.Mathlib.Omega.{arith}
 use lib.Dec.{eqb}
 use lib.ListN.{length}
 use borrow.Author.Tests.{ne-eqb}
-use Rattle.places.specs.Pick.{either}
-use Rattle.places.proofs.Tests.{false-true}
+use Rattle.lists.specs.Pick.{either}
+use Rattle.lists.specs.Search.{firstBad}
+use Rattle.lists.proofs.Tests.{false-true}
+use Rattle.lists.proofs.Search.{first-only, first-le, first-before, first-at}
 use Rattle.contents.specs.declared.FileAnswer.the-variants.{Done, Runs}
 use Rattle.contents.specs.Answers.{fileAnswer}
 use Rattle.contents.specs.Contents.{count, contentsTests}
-use Rattle.contents.specs.First.{firstBad}
 use Rattle.contents.proofs.Answers.{stopped, in-front-done}
-use Rattle.contents.proofs.First.{first-only, first-le, first-before, first-at}
 use Rattle.files.specs.Files.{badRuns}
 use Rattle.files.specs.InnerRuns.{runsTests}
 use Rattle.files.proofs.Files.{goodIn, no-bad-runs}

@@ -9,17 +9,18 @@ use native.Mathlib.Omega.{arith}
 use lib.Dec.{eqb}
 use lib.ListN.{length, drop}
 use borrow.Author.Tests.{eq-eqb, ne-eqb, eqb-true}
-use Rattle.places.specs.Numbers.{Elements}
-use Rattle.places.specs.Pick.{pick}
+use Rattle.lists.specs.Numbers.{Elements}
+use Rattle.lists.specs.Pick.{pick}
+use Rattle.lists.specs.Ends.{Spans}
+use Rattle.lists.proofs.Search.{first-only, first-before}
 use Rattle.contents.specs.declared.FileAnswer.the-variants.{Done, Range, Runs}
 use Rattle.contents.specs.Answers.{fileAnswer, numberOf}
 use Rattle.contents.specs.Contents.{edition, count, editionOr, entryOf, rangeOf, bodyStart, contentsTests}
 use Rattle.contents.proofs.Accepted.{done-first, done-front}
 use Rattle.contents.proofs.Answers.{passed, stopped, none-left, in-front-done, in-front-refused}
-use Rattle.contents.proofs.First.{first-only, first-before}
 use Rattle.bodies.specs.Ranges.{isRange}
 use Rattle.bodies.proofs.Blocks.{Block, a-block, take-elements, drop-elements}
-use Rattle.bodies.proofs.Ranges.{Spans, range-spans}
+use Rattle.bodies.proofs.Ranges.{range-spans}
 use Rattle.files.specs.Files.{bodyOf, blockIn, hasTrueRange, badRuns, badRange, fileTests}
 use Rattle.files.specs.InnerRuns.{runsTests}
 use Rattle.bodywise.proofs.Told.{edition-read, body-laid}
@@ -86,7 +87,7 @@ module _ (l : List ℕ) where
   file-block bytes done i h = a-block (entryOf l i) (bodyOf l i) (body-laid l (contents-right (file-runs done)) i h) (body-bytes bytes i)
 
   -- and in edition 2 every value of it is between the smallest and the largest that its entry says, and both stand in the block.
-  pub file-spans : Elements 8 l → fileAnswer (fileTests l) ≡ Done → edition l ≡ 2 → (i : ℕ) → i < count l → Spans (rangeOf l i) (blockIn l i)
+  pub file-spans : Elements 8 l → fileAnswer (fileTests l) ≡ Done → edition l ≡ 2 → (i : ℕ) → i < count l → Spans (rangeOf l i .smallest) (rangeOf l i .largest) (blockIn l i)
   unfolding hasTrueRange
   file-spans bytes done second i h =
       let block = file-block bytes done i h in

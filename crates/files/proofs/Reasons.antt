@@ -11,27 +11,25 @@ use native.Mathlib.Omega.{arith}
 use lib.Dec.{eqb, ltb}
 use lib.ListN.{length, getD}
 use borrow.Author.Tests.{lt-ltb, le-ltb, eq-eqb, ne-eqb, eqb-true, eqb-false}
-use Rattle.places.specs.Pick.{pick, both}
-use Rattle.places.specs.Search.{firstBeyond}
-use Rattle.places.specs.Tab.{tab}
-use Rattle.places.proofs.Search.{first-beyond-none}
-use Rattle.places.proofs.Tabs.{getD-tab, length-tab}
-use Rattle.places.proofs.Tests.{not-then, false-true, both-true}
+use Rattle.lists.specs.Pick.{pick, both}
+use Rattle.lists.specs.Search.{firstBeyond, firstBad}
+use Rattle.lists.specs.Tab.{tab}
+use Rattle.lists.specs.Ends.{lowestOf, highestOf}
+use Rattle.lists.proofs.Search.{first-beyond-none, first-only, first-before, first-at}
+use Rattle.lists.proofs.Tabs.{getD-tab, length-tab}
+use Rattle.lists.proofs.Tests.{not-then, false-true, both-true}
 use Rattle.little.specs.Little.{little, numbersOf}
 use Rattle.contents.specs.declared.Entry.{Entry}
 use Rattle.contents.specs.declared.FileAnswer.{FileAnswer}
 use Rattle.contents.specs.declared.FileAnswer.the-variants.{Done, Block, Cut, Edition, BadEntry, Over, Beyond, Runs, Range}
 use Rattle.contents.specs.Answers.{FileTest, fileAnswer, numberOf}
 use Rattle.contents.specs.Contents.{edition, count, contentsSize, entryOf, rangeOf, isRight, badEntry, bodyStart, entriesTests, contentsTests}
-use Rattle.contents.specs.First.{firstBad}
 use Rattle.contents.proofs.Accepted.{accepted, accepts}
 use Rattle.contents.proofs.Answers.{passed, stopped, none-left, in-front-done, in-front-refused, number-done}
 use Rattle.contents.proofs.Checks as Checks
-use Rattle.contents.proofs.First.{first-only, first-before, first-at}
 use Rattle.contents.proofs.Laid.{laid-plain, taken-plain, both-is, leb-is}
 use Rattle.bodies.specs.Bodies.{hasGoodRuns, valueCount}
-use Rattle.bodies.specs.Ranges.{isRange, lowestOf}
-use Rattle.runs.specs.Highest.{highestOf}
+use Rattle.bodies.specs.Ranges.{isRange}
 use Rattle.files.specs.Files.{bodyOf, blockIn, hasTrueRange, badRuns, badRange, rowCount, fileTests, blockTests, rowTests}
 use Rattle.files.specs.Plain.{GoodRuns, TrueRange, Headed, EntryRight, RightTo, GoodTo, TrueTo, Right, Reason, BlockReason, RowReason}
 use Rattle.files.specs.Plain.{short-head, other-edition, short-entries, bad-entry, short-bodies, left-over, bad-runs, bad-range, none}

@@ -9,15 +9,16 @@ use native.Mathlib.Omega.{arith}
 use lib.Dec.{ltb}
 use lib.ListN.{length, getD}
 use borrow.Author.Tests.{lt-ltb, le-ltb}
+use Rattle.lists.specs.Pick.{pick}
+use Rattle.lists.specs.Numbers.{plus, Elements}
+use Rattle.lists.specs.Parts.{cut}
+use Rattle.lists.specs.Tab.{tab, tabFrom}
+use Rattle.lists.specs.Search.{firstFailing, firstBad}
+use Rattle.lists.proofs.Digits.{elements-of}
+use Rattle.lists.proofs.Parts.{length-cut, getD-cut}
+use Rattle.lists.proofs.Tabs.{getD-tab, length-tab, is-tab, tab-getD}
 use Rattle.places.specs.declared.Answer.the-variants.{Done as NoRefusal}
-use Rattle.places.specs.Pick.{pick}
-use Rattle.places.specs.Numbers.{plus, Elements}
-use Rattle.places.specs.Parts.{cut}
 use Rattle.places.specs.Sizes.{t64}
-use Rattle.places.specs.Tab.{tab, tabFrom}
-use Rattle.places.proofs.Digits.{elements-of}
-use Rattle.places.proofs.Parts.{length-cut, getD-cut}
-use Rattle.places.proofs.Tabs.{getD-tab, length-tab, is-tab, tab-getD}
 use Rattle.packing.specs.Packed.{valueAt}
 use Rattle.packing.proofs.Rounds.{value-zero}
 use Rattle.access.specs.declared.t64.Single.{Single}
@@ -34,7 +35,6 @@ use Rattle.contents.specs.declared.FileAnswer.the-variants.{Done}
 use Rattle.contents.specs.Answers.{fileAnswer, isDone, left}
 use Rattle.contents.proofs.Answers.{says-answer}
 use Rattle.contents.specs.Contents.{count, entrySize, contentsSize, entryOf, rangeOf, isOfKind, isLaidOut, isRight, badEntry, bodiesSize, bodyStart}
-use Rattle.contents.specs.First.{firstFrom, firstBad}
 use Rattle.bodies.specs.Bodies.{packedFrom, blockOf, hasGoodRuns}
 use Rattle.bodies.proofs.Blocks.{packed-value}
 use Rattle.bodies.proofs.Bodies.{length-numbers, laid-plain}
@@ -178,7 +178,7 @@ oneOfSevens = 1 ∷ 0 ∷ 1 ∷ 0 ∷ 1 ∷ 0 ∷ 0 ∷ 0 ∷ 0 ∷ 0 ∷ 0 ∷ 
 
 -- Both are accepted.
 pub worked-accepted : (fileAnswer (fileTests noBlocks) ≡ Done) × (fileAnswer (fileTests oneOfSevens) ≡ Done)
-unfolding fileAnswer little entrySize contentsSize badEntry badRuns badRange firstBad firstFrom isRight isLaidOut isOfKind entryOf rangeOf bodyStart bodiesSize hasGoodRuns hasTrueRange
+unfolding fileAnswer little entrySize contentsSize badEntry badRuns badRange firstBad firstFailing tab tabFrom isRight isLaidOut isOfKind entryOf rangeOf bodyStart bodiesSize hasGoodRuns hasTrueRange
 worked-accepted = (refl, refl)
 
 -- The first has no rows,

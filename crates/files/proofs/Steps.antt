@@ -9,14 +9,14 @@ use Prim.Native.Nat.{ℕ}
 use lib.Dec.{eqb}
 use lib.ListN.{length}
 use borrow.Author.Tests.{eqb-true, eqb-false}
-use Rattle.places.specs.Answers.{unless}
+use Rattle.lists.specs.Tests.{unless}
+use Rattle.lists.specs.Search.{firstBad}
+use Rattle.lists.proofs.Search.{first-ext}
 use Rattle.contents.specs.declared.FileAnswer.{FileAnswer}
 use Rattle.contents.specs.declared.FileAnswer.the-variants.{Done, Runs, Range}
 use Rattle.contents.specs.Answers.{FileTest, fileAnswer, numberOf, isDone}
 use Rattle.contents.specs.Contents.{count, entryOf, contentsTests}
-use Rattle.contents.specs.First.{firstBad}
 use Rattle.contents.proofs.Answers.{in-front-done, in-front-refused, number-done, left-refused}
-use Rattle.contents.proofs.First.{first-ext}
 use Rattle.bodies.specs.Bodies.{hasGoodRuns, bodyTests}
 use Rattle.files.specs.Files.{bodyOf, blockIn, badRuns, badRange, fileTests, blockTests, blockLeaves}
 use Rattle.files.proofs.Files.{body-tested, tested-done}

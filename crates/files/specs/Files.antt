@@ -6,13 +6,13 @@ use mathlib.Core.List.{List, [], _∷_, _++_}
 use Prim.Native.Nat.{ℕ, _*_, _/_, _%_}
 use lib.Dec.{eqb, ltb}
 use lib.ListN.{length, getD, take, drop}
-use Rattle.places.specs.Takes.{long}
-use Rattle.places.specs.Pick.{pick}
-use Rattle.places.specs.Tab.{tab}
+use Rattle.lists.specs.Tests.{long}
+use Rattle.lists.specs.Pick.{pick}
+use Rattle.lists.specs.Tab.{tab}
+use Rattle.lists.specs.Search.{firstBad}
 use Rattle.contents.specs.declared.FileAnswer.the-variants.{Beyond, Block, Range, Runs}
 use Rattle.contents.specs.Answers.{FileTest, fileAnswer, left}
 use Rattle.contents.specs.Contents.{edition, count, entryOf, rangeOf, bodyStart, contentsTests}
-use Rattle.contents.specs.First.{firstBad}
 use Rattle.bodies.specs.Bodies.{blockOf, hasGoodRuns}
 use Rattle.bodies.specs.Ranges.{isRange}
 

@@ -7,7 +7,7 @@ use mathlib.Core.List.{List, []}
 use Prim.Native.Nat.{ℕ, _+_}
 use lib.Dec.{leb}
 use lib.ListN.{length, take, drop, replicate}
-use Rattle.places.specs.Pick.{pick}
+use Rattle.lists.specs.Pick.{pick}
 use Rattle.contents.specs.Answers.{FileTest, fileAnswer, isDone}
 use Rattle.contents.specs.Contents.{entryOr, rangeOr}
 use Rattle.bodies.specs.Bodies as Bodies

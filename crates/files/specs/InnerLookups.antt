@@ -3,7 +3,7 @@
 use mathlib.Core.List.{List}
 use mathlib.Core.Path.{_≡_}
 use Prim.Native.Nat.{ℕ}
-use Rattle.places.specs.Numbers.{digit}
+use Rattle.lists.specs.Numbers.{digit}
 use Rattle.places.specs.Sizes.{t64}
 use Rattle.packing.specs.Packed.{wordsNumber, valueAt}
 use Rattle.access.specs.Counts.{wordsRead, countAt}

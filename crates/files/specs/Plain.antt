@@ -6,14 +6,13 @@ use mathlib.Core.Logic.{_⊎_, _≢_}
 use mathlib.Core.Path.{_≡_}
 use Prim.Native.Nat.{ℕ, _*_, _-_, _/_, _≤_, _<_}
 use lib.ListN.{length}
+use Rattle.lists.specs.Ends.{highestOf, lowestOf}
 use Rattle.little.specs.Little.{little}
 use Rattle.contents.specs.declared.Entry.{Entry}
 use Rattle.contents.specs.declared.FileAnswer.{FileAnswer}
 use Rattle.contents.specs.declared.FileAnswer.the-variants.{Done, Block, Cut, Edition, BadEntry, Over, Beyond, Runs, Range}
 use Rattle.contents.specs.Contents.{edition, count, contentsSize, entryOf, rangeOf, bodyStart}
 use Rattle.contents.specs.Plain.{LaidOut, TakenIn}
-use Rattle.runs.specs.Highest.{highestOf}
-use Rattle.bodies.specs.Ranges.{lowestOf}
 use Rattle.files.specs.Files.{bodyOf, blockIn, rowCount}
 
 -- In a body of runs every run index is below the number of run values.

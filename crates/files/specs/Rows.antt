@@ -3,7 +3,7 @@
 use mathlib.Core.List.{List}
 use Prim.Native.Nat.{ℕ, _/_, _%_}
 use lib.Dec.{ltb}
-use Rattle.places.specs.Pick.{pick}
+use Rattle.lists.specs.Pick.{pick}
 use Rattle.places.specs.Sizes.{t64}
 use Rattle.access.specs.Counts.{countAt}
 use Rattle.contents.specs.declared.Entry.{Entry}

@@ -12,9 +12,9 @@ use native.Mathlib.Omega.{arith}
 use lib.Dec.{leb}
 use lib.ListN.{length, take, drop}
 use borrow.Author.Tests.{eqb-true, eqb-false, lt-ltb, le-ltb, le-leb, leb-true}
-use Rattle.places.specs.Pick.{pick}
-use Rattle.places.specs.Tab.{over}
-use Rattle.places.proofs.Overs.{over-front}
+use Rattle.lists.specs.Pick.{pick}
+use Rattle.lists.specs.Tab.{over}
+use Rattle.lists.proofs.Overs.{over-front}
 use Rattle.contents.specs.declared.Entry.{Entry}
 use Rattle.contents.specs.declared.FileAnswer.{FileAnswer}
 use Rattle.contents.specs.declared.FileAnswer.the-variants.{Done as Accepted}

@@ -11,9 +11,9 @@ use lib.ListN.{length, getD, set, take, drop, length-append, length-take, length
 use lib.Seq.{take-all, take-suc, drop-length, length-take-le}
 use borrow.Author.Tests.{le-leb, eq-eqb, ne-eqb}
 use borrow.Rule.Slice.PartMut.{putMid, post-is}
-use Rattle.places.specs.Pick.{pick}
-use Rattle.places.specs.Tab.{over}
-use Rattle.places.proofs.Overs.{over-append, length-over, over-nothing, over-tail, set-over}
+use Rattle.lists.specs.Pick.{pick}
+use Rattle.lists.specs.Tab.{over}
+use Rattle.lists.proofs.Overs.{over-append, length-over, over-nothing, over-tail, set-over}
 use Rattle.decimal.specs.Calls.{laidOf, layLeaves}
 use Rattle.decimal.specs.Decimal.{textOf}
 use Rattle.decimal.proofs.Texts.{long-most}

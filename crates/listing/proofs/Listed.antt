@@ -8,8 +8,10 @@ use native.Mathlib.Omega.{arith}
 use lib.ListN.{length, getD, take, drop, length-map, length-append}
 use lib.Seq.{take-all, getD-take}
 use borrow.Author.Tests.{eq-eqb}
-use Rattle.places.specs.Tab.{over}
-use Rattle.places.proofs.Overs.{over-front, over-rest}
+use Rattle.lists.specs.Tab.{over}
+use Rattle.lists.specs.Passing.{failingFrom}
+use Rattle.lists.proofs.Overs.{over-front, over-rest}
+use Rattle.lists.proofs.Failing.{failing-few}
 use Rattle.contents.specs.declared.FileAnswer.{FileAnswer}
 use Rattle.contents.specs.declared.FileAnswer.the-variants.{Done as Accepted}
 use Rattle.contents.specs.Answers.{fileAnswer, numberOf, left as leaves}
@@ -19,8 +21,7 @@ use Rattle.bodies.specs.Bodies.{blockOf}
 use Rattle.bodywise.specs.Steps.{bodyTests, blockTests, blockLeaves}
 use Rattle.compare.specs.declared.Change.{Change}
 use Rattle.compare.specs.declared.Compared.{Compared}
-use Rattle.compare.specs.Changes.{differing, failingFrom, isSame, changeAt, changesIn, differingTests, comparedOf, differingLeaves, countOf}
-use Rattle.compare.proofs.Failing.{failing-few}
+use Rattle.compare.specs.Changes.{differing, isSame, changeAt, changesIn, differingTests, comparedOf, differingLeaves, countOf}
 use Rattle.compare.proofs.Noted.{some-differ}
 use Rattle.listing.specs.Text.{changeLine, linesOf}
 use Rattle.listing.proofs.Stages.{over-text}

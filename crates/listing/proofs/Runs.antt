@@ -10,10 +10,10 @@ use native.Mathlib.Numerals.{add-one}
 use native.Mathlib.Omega.{arith}
 use lib.ListN.{length, take, replicate, length-append, length-replicate}
 use borrow.Author.Tests.{eqb-true}
-use Rattle.places.specs.Pick.{pick}
+use Rattle.lists.specs.Pick.{pick}
+use Rattle.lists.specs.Tab.{over}
+use Rattle.lists.proofs.Overs.{over-front}
 use Rattle.places.specs.Sizes.{largestU64}
-use Rattle.places.specs.Tab.{over}
-use Rattle.places.proofs.Overs.{over-front}
 use Rattle.contents.specs.declared.FileAnswer.{FileAnswer}
 use Rattle.contents.specs.declared.FileAnswer.the-variants.{Done as Accepted}
 use Rattle.contents.specs.Answers.{fileAnswer, numberOf, isDone}

@@ -6,9 +6,9 @@ use mathlib.Core.List.{List, []}
 use Prim.Native.Nat.{ℕ, _+_, _*_, min}
 use lib.Dec.{eqb, leb, ltb}
 use lib.ListN.{length}
-use Rattle.places.specs.Pick.{pick, both}
+use Rattle.lists.specs.Pick.{pick, both}
+use Rattle.lists.specs.Tab.{over}
 use Rattle.places.specs.Sizes.{largestU64}
-use Rattle.places.specs.Tab.{over}
 use Rattle.contents.specs.declared.FileAnswer.{FileAnswer}
 use Rattle.contents.specs.declared.FileAnswer.the-variants.{Done as Accepted}
 use Rattle.contents.specs.Answers.{fileAnswer, isDone}

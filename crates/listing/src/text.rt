@@ -5,7 +5,7 @@ use wishes::Side;
 ghost use mathlib.Core.Path.{_≡_};
 ghost use Prim.Native.Nat.{_+_, _≤_};
 ghost use lib.ListN.{length};
-ghost use Rattle.places.specs.Tab.{over};
+ghost use Rattle.lists.specs.Tab.{over};
 ghost use Rattle.listing.specs.Text.{fieldOf, refusedText, refusalLine, changeLine, rowsLine, lastLines};
 
 // A text, from a place on.

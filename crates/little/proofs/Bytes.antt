@@ -13,11 +13,11 @@ use lib.ListN.{length, getD, take, set, length-append}
 use lib.Pow.{pow-add, field, mod-mod-pow}
 use lib.Seq.{length-take-le, sets-eq, take-length, take-suc}
 use borrow.Author.Tests.{le-leb, lt-leb}
-use Rattle.places.specs.Numbers.{Elements}
-use Rattle.places.specs.Pick.{pick}
-use Rattle.places.specs.Tab.{over}
-use Rattle.places.proofs.Overs.{length-over, over-append, over-nothing}
-use Rattle.places.proofs.Tabs.{is-tab}
+use Rattle.lists.specs.Numbers.{Elements}
+use Rattle.lists.specs.Pick.{pick}
+use Rattle.lists.specs.Tab.{over}
+use Rattle.lists.proofs.Overs.{length-over, over-append, over-nothing}
+use Rattle.lists.proofs.Tabs.{is-tab}
 use Rattle.little.specs.Little.{little, numbersOf, bytesOf, allBytes, putLeaves, writeLeaves}
 use Rattle.little.proofs.Little.{little-past}
 

@@ -10,8 +10,8 @@ use native.Mathlib.Omega.{arith}
 use lib.Dec.{leb}
 use lib.ListN.{length, getD, List·getD-append}
 use borrow.Author.Tests.{le-leb, lt-leb}
-use Rattle.places.specs.Pick.{pick}
-use Rattle.places.proofs.Tabs.{length-tab}
+use Rattle.lists.specs.Pick.{pick}
+use Rattle.lists.proofs.Tabs.{length-tab}
 use Rattle.little.specs.Little.{little, littleOr, numbersOf, readLeaves}
 
 -- one byte

@@ -4,8 +4,8 @@ use mathlib.Core.List.{List, [], _∷_, _++_}
 use Prim.Native.Nat.{ℕ, zero, suc, _+_, _*_, _/_, _%_}
 use lib.Dec.{leb}
 use lib.ListN.{length, getD}
-use Rattle.places.specs.Pick.{pick}
-use Rattle.places.specs.Tab.{tab, over}
+use Rattle.lists.specs.Pick.{pick}
+use Rattle.lists.specs.Tab.{tab, over}
 
 -- This is the number whose bytes, lowest first, are the k bytes of l from place `at` on.
 unfoldable pub little : (l : List ℕ) (at k : ℕ) → ℕ

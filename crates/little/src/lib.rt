@@ -6,7 +6,7 @@ ghost use mathlib.Core.Path.{_≡_};
 ghost use Prim.Native.Nat.{_+_, _*_, _≤_, _<_};
 ghost use lib.Dec.{leb};
 ghost use lib.ListN.{length};
-ghost use Rattle.places.specs.Tab.{over};
+ghost use Rattle.lists.specs.Tab.{over};
 ghost use Rattle.little.specs.Little.{little, littleOr, numbersOf, readLeaves, bytesOf, allBytes, putLeaves, writeLeaves};
 
 // The number of the two bytes from `at` on; 0 where they are not all there.

@@ -5,8 +5,8 @@ use mathlib.Core.Path.{_≡_, ap, _∙_}
 use mathlib.Core.List.{List}
 use Prim.Native.Nat.{ℕ, _*_, _%_, _^_, _≤_, _<_}
 use lib.ListN.{length, getD}
+use Rattle.lists.specs.Numbers.{Elements}
 use Rattle.places.specs.declared.Answer.the-variants.{Done}
-use Rattle.places.specs.Numbers.{Elements}
 use Rattle.places.specs.Sizes.{Size, lanes}
 use Rattle.places.specs.Takes.{answerFor}
 use Rattle.packing.specs.Calls.{packTakes, packLeaves, unpackLeaves}

@@ -10,14 +10,14 @@ use native.Mathlib.Omega.{arith}
 use lib.Arith.{digits-lt, digits-div, digits-mod}
 use lib.ListN.{length, getD}
 use lib.Pow.{pow-pos}
+use Rattle.lists.specs.Tab.{tab, tabFrom}
+use Rattle.lists.specs.Numbers.{digit, Elements}
+use Rattle.lists.proofs.Tabs.{getD-tab, length-tab, tab-ext, is-tab}
+use Rattle.lists.proofs.Digits.{number-lt, number-ext, digit-lt, digit-number, number-digits, elements-of}
 use Rattle.places.specs.Places.{place, lane, row}
 use Rattle.places.specs.Sizes.{Size, lanes}
-use Rattle.places.specs.Tab.{tab, tabFrom}
 use Rattle.places.proofs.Places.{lanes-some, size-lanes, place-row-lane, lane-lt, row-lt, lane-place, row-place, place-lt}
-use Rattle.places.proofs.Tabs.{getD-tab, length-tab, tab-ext, is-tab}
-use Rattle.places.specs.Numbers.{digit, Elements}
 use Rattle.packing.specs.Packed.{word, part, wordsNumber, valuesNumber, wordAt, packOf, valueAt, unpackOf}
-use Rattle.places.proofs.Digits.{number-lt, number-ext, digit-lt, digit-number, number-digits, elements-of}
 
 module _ (t w : ℕ) where
   -- A packed block has w words for each lane.

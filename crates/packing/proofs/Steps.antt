@@ -11,9 +11,9 @@ use native.Mathlib.Omega.{arith}
 use lib.Arith.{digits-div, digits-mod}
 use lib.Bits.{bitOr, or-shifted-r}
 use lib.Pow.{pow-pos, pow-mono, pow-add, mod-pow-add, mod-mod-pow, high, low, shr-shr, shr-lt}
-use Rattle.places.specs.Numbers.{number, digit}
+use Rattle.lists.specs.Numbers.{number, digit}
+use Rattle.lists.proofs.Digits.{number-lt, number-split, digit-number, digit-from}
 use Rattle.packing.specs.InnerWalks.{held}
-use Rattle.places.proofs.Digits.{number-lt, number-split, digit-number, digit-from}
 
 -- a power as two
 pow-cut : (s t : ℕ) → s ≤ t → 2 ^ t ≡ 2 ^ (t - s) * 2 ^ s

@@ -10,17 +10,17 @@ use lib.Arith.{digits-div, digits-mod, lt-of-le-ne}
 use lib.Bits.{bitOr}
 use lib.ListN.{length, getD, take, drop, length-append, length-take}
 use lib.Seq.{take-all, take-at}
+use Rattle.lists.specs.Tab.{tab, tabFrom, over}
+use Rattle.lists.specs.Numbers.{digit, Elements}
+use Rattle.lists.proofs.Tabs.{length-tab, tab-ext, tab-append, length-over}
+use Rattle.lists.proofs.Digits.{digit-number}
 use Rattle.places.specs.Places.{order, place, nextStart}
 use Rattle.places.specs.Sizes.{Size, lanes}
-use Rattle.places.specs.Tab.{tab, tabFrom, over}
 use Rattle.places.proofs.Places.{size-some, size-most, place-lane, place-lt, start-next}
-use Rattle.places.proofs.Tabs.{length-tab, tab-ext, tab-append, length-over}
 use Rattle.rows.specs.Rows.{splatOf, shrOf, orShlOf, maskOf}
 use Rattle.rows.proofs.Rows.{shr-tab, mask-tab, or-shl-tab}
-use Rattle.places.specs.Numbers.{digit, Elements}
 use Rattle.packing.specs.InnerWalks.{held, heldRow, Filled}
 use Rattle.packing.specs.Packed.{word, part, wordsNumber, valuesNumber, wordAt, packOf, valueAt}
-use Rattle.places.proofs.Digits.{digit-number}
 use Rattle.packing.proofs.Rounds.{word-fits, value-place, digit-words, part-lt}
 use Rattle.packing.proofs.Steps.{word-lt, second-lt, on-word, on-bit, over-word, over-bit, word-all, filling, read-one, read-two, held-zero, write-on, write-word, write-rest}
 

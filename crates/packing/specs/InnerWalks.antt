@@ -4,9 +4,9 @@ use mathlib.Core.Path.{_≡_}
 use mathlib.Core.List.{List}
 use Prim.Native.Nat.{ℕ, _*_, _/_, _^_}
 use lib.ListN.{length, take}
-use Rattle.places.specs.Numbers.{number}
+use Rattle.lists.specs.Numbers.{number}
+use Rattle.lists.specs.Tab.{tab}
 use Rattle.places.specs.Sizes.{lanes}
-use Rattle.places.specs.Tab.{tab}
 use Rattle.packing.specs.Packed.{part, wordAt}
 
 -- The first r digits of w bits leave this over for the digit of t bits that they do not fill: a word that is being packed holds it.

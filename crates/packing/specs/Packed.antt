@@ -3,10 +3,10 @@
 use mathlib.Core.List.{List}
 use Prim.Native.Nat.{ℕ, _*_, _+_, _/_, _%_, _^_}
 use lib.ListN.{getD}
-use Rattle.places.specs.Numbers.{number, digit}
+use Rattle.lists.specs.Numbers.{number, digit}
+use Rattle.lists.specs.Tab.{tab}
 use Rattle.places.specs.Places.{place, lane, row}
 use Rattle.places.specs.Sizes.{lanes}
-use Rattle.places.specs.Tab.{tab}
 
 -- Word k of lane l stands at LANES·k + l of the packed block.
 unfoldable pub word : (t : ℕ) (packed : List ℕ) (l k : ℕ) → ℕ

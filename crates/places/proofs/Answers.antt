@@ -5,11 +5,11 @@ use mathlib.Core.List.{List, _∷_, map}
 use mathlib.Core.Path.{_≡_, refl, sym, ap, _∙_}
 use Prim.Native.Nat.{ℕ, suc}
 use native.Mathlib.Omega.{arith}
-use borrow.Author.Tests.{eq-eqb, ne-eqb}
+use Rattle.lists.specs.Pick.{pick}
+use Rattle.lists.proofs.Answers as every
 use Rattle.places.specs.declared.Answer.{Answer}
 use Rattle.places.specs.declared.Answer.the-variants.{Done, Width, Block, Packed, Base, Lists, Index, Dictionary}
-use Rattle.places.specs.Answers.{numberOf, isDone, left, unless, Test, firstRefusal}
-use Rattle.places.specs.Pick.{pick}
+use Rattle.places.specs.Answers.{numberOf, isDone, left}
 use Rattle.places.specs.Takes.{Taken, a-width, a-block, a-packed, a-base, two-lists, an-index, an-index-list, dictionary-indices, tested, answerFor}
 
 pub done : (a : Answer) (z new old : List ℕ) → a ≡ Done → z ≡ new → (Done ≡ a) × (z ≡ left a new old)
@@ -17,7 +17,7 @@ done a z new old e f = (sym e, f ∙ sym (ap (λ b. left b new old) e))
 
 -- After every refusal, that is after every number but 0, a lent buffer holds what it held.
 pub left-refused : {A : Type 0} (a : Answer) (new old : A) → (numberOf a ≡ 0 → ⊥) → left a new old ≡ old
-left-refused a new old h = simp (ne-eqb (numberOf a) 0 h)
+left-refused = every.left-refused numberOf
 
 -- the number of a refusal is not that of a call that is done
 pub number-apart : {n : ℕ} → suc n ≡ 0 → ⊥
@@ -37,23 +37,16 @@ number-done (Dictionary p) e = absurd (number-apart e)
 -- What is given by an answer: after a refusal what stands for the refusal, and where the call is done the other.
 module _ {S : Type 0} (given : S) (refused : Answer → S) (a b : Answer) (e : a ≡ b) where
   pub by-refusal : (numberOf a ≡ 0 → ⊥) → refused a ≡ pick (isDone b) given (refused b)
-  by-refusal n = sym (ap (λ b. pick (isDone b) given (refused b)) (sym e) ∙ simp (ne-eqb (numberOf a) 0 n))
+  by-refusal = every.by-refusal numberOf given refused a b e
 
   pub by-done : numberOf a ≡ 0 → given ≡ pick (isDone b) given (refused b)
-  by-done z = sym (ap (λ b. pick (isDone b) given (refused b)) (sym e) ∙ simp (eq-eqb (numberOf a) 0 z))
+  by-done = every.by-done numberOf given refused a b e
 
 -- What is read off it: the answer, where the one stands for an answer that is done and the other for the refusal,
 module _ {S : Type 0} (given : S) (refused : Answer → S) where
   pub says-answer : (read : S → Answer) → read given ≡ Done → ((a : Answer) → read (refused a) ≡ a)
       → (a : Answer) → read (pick (isDone a) given (refused a)) ≡ a
-  says-answer read done itself Done = done
-  says-answer read done itself Width = itself Width
-  says-answer read done itself Block = itself Block
-  says-answer read done itself Packed = itself Packed
-  says-answer read done itself Base = itself Base
-  says-answer read done itself Lists = itself Lists
-  says-answer read done itself (Index p) = itself (Index p)
-  says-answer read done itself (Dictionary p) = itself (Dictionary p)
+  says-answer = every.says-answer numberOf Done number-done given refused
 
   -- and a number, where each refusal has the same.
   pub says-number : (read : S → ℕ) (none : ℕ) → ((a : Answer) → read (refused a) ≡ none)
@@ -64,15 +57,7 @@ module _ {S : Type 0} (given : S) (refused : Answer → S) where
       go true = refl
       go false = same a
 
--- Where all tests of a list pass, the first one does, and so do the others, if its refusal is not what stands for a call that is done.
-pub first-passed : {A : Type 0} (done : A) (x : Test A) (xs : List (Test A)) → (x .1 ≡ done → ⊥)
-    → firstRefusal done (x ∷ xs) ≡ done → (x .0 ≡ true) × (firstRefusal done xs ≡ done)
-first-passed done x xs other e = go (x .0) refl e
-  where
-    go : (b : Bool) → x .0 ≡ b → unless b (x .1) (firstRefusal done xs) ≡ done → (x .0 ≡ true) × (firstRefusal done xs ≡ done)
-    go true p e = (p, e)
-    go false p e = absurd (other e)
-
+-- No refusal of the table is Done,
 no-refusal : (x : Taken) → tested x .1 ≡ Done → ⊥
 no-refusal (a-width t w) e = number-apart (ap numberOf e)
 no-refusal (a-block values) e = number-apart (ap numberOf e)
@@ -83,7 +68,7 @@ no-refusal (an-index i) e = number-apart (ap numberOf e)
 no-refusal (an-index-list list) e = number-apart (ap numberOf e)
 no-refusal (dictionary-indices dictionary list) e = number-apart (ap numberOf e)
 
--- So it is of what a call takes.
+-- so where all that a call takes passes, the first thing does, and so do the others.
 pub first-passes : (x : Taken) (xs : List Taken) → answerFor (x ∷ xs) ≡ Done → (tested x .0 ≡ true) × (answerFor xs ≡ Done)
 unfolding answerFor
-first-passes x xs e = first-passed Done (tested x) (map tested xs) (no-refusal x) e
+first-passes x xs e = every.first-passed Done (tested x) (map tested xs) (no-refusal x) e

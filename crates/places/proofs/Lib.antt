@@ -1,10 +1,3 @@
 pub mod Answers
-pub mod Digits
-pub mod Every
-pub mod Overs
-pub mod Parts
 pub mod Places
-pub mod Search
-pub mod Tabs
-pub mod Tests
 pub mod Walks

@@ -9,11 +9,11 @@ use native.Mathlib.Omega.{arith}
 use lib.Arith.{digits-lt, digits-div, digits-mod}
 use lib.Dec.{lit<, lit≤}
 use lib.ListN.{getD}
+use Rattle.lists.specs.Tab.{tab}
+use Rattle.lists.proofs.Every.{Same, Below, same, below}
+use Rattle.lists.proofs.Tabs.{getD-tab}
 use Rattle.places.specs.Sizes.{t8, t16, t32, t64, Size, lanes}
 use Rattle.places.specs.Places.{order, place, nextStart, lane, row, source, target}
-use Rattle.places.specs.Tab.{tab}
-use Rattle.places.proofs.Every.{Same, Below, same, below}
-use Rattle.places.proofs.Tabs.{getD-tab}
 
 -- what holds at each of the four sizes holds at a size
 pub each : (P : ℕ → Type 0) → P t8 → P t16 → P t32 → P t64 → {t : ℕ} → Size t → P t

@@ -9,15 +9,15 @@ use native.Mathlib.Omega.{arith}
 use lib.Arith.{digits-lt, digits-div, digits-mod}
 use lib.ListN.{length, getD}
 use borrow.Author.Tests.{eq-eqb, ne-eqb}
+use Rattle.lists.specs.Tab.{tab}
+use Rattle.lists.proofs.Every.{same}
+use Rattle.lists.proofs.Tabs.{getD-tab, is-tab, tab-ext, Written, written-ext, written-run}
 use Rattle.places.specs.declared.Answer.the-variants.{Done, Block}
 use Rattle.places.specs.Places.{order, source, target}
-use Rattle.places.specs.Tab.{tab}
 use Rattle.places.specs.Takes.{answerFor}
 use Rattle.places.specs.Transposes.{transposeOf, untransposeOf, transposeTakes}
 use Rattle.places.specs.InnerWalks.{walk}
-use Rattle.places.proofs.Every.{same}
 use Rattle.places.proofs.Places.{order-lt, source-target, target-source, source-lt, target-lt}
-use Rattle.places.proofs.Tabs.{getD-tab, is-tab, tab-ext, Written, written-ext, written-run}
 
 left-factor : (a b : ℕ) → a * b ≡ 128 → a ≤ 128
 left-factor a zero e = let z : a * zero ≡ zero = mul-zero a in omega arith

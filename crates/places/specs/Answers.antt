@@ -1,13 +1,12 @@
 -- What a call answers: the numbers and places of document 01's table, "Numbers given back", and what a call leaves in a lent buffer. The
 -- table's tests stand in Takes.
 -- Assumes nothing.
-use mathlib.Core.List.{List, [], _∷_}
 use mathlib.Core.Bool.{Bool}
 use Prim.Native.Nat.{ℕ}
 use lib.Dec.{eqb}
+use Rattle.lists.specs.Pick.{pick}
 use Rattle.places.specs.declared.Answer.{Answer}
 use Rattle.places.specs.declared.Answer.the-variants.{Done, Width, Block, Packed, Base, Lists, Index, Dictionary}
-use Rattle.places.specs.Pick.{pick}
 
 -- Each case of an answer has a number of the table.
 abbrev pub numberOf : Answer → ℕ
@@ -30,20 +29,6 @@ placeOf Base = 0
 placeOf Lists = 0
 placeOf (Index p) = p
 placeOf (Dictionary p) = p
-
--- This is one line of a call's tests: where the test holds what follows decides, and otherwise this refusal is given.
-abbrev pub unless : {A : Type 0} → (test : Bool) (refusal rest : A) → A
-unless test refusal rest = pick test rest refusal
-
--- A test of a call stands with the refusal that is given where it fails: the first of the two is the test, and the second the refusal.
-abbrev pub Test : (A : Type 0) → Type 0
-Test A = Bool × A
-
--- The tests of a call stand in a list. The first one that fails gives its refusal, and where every one passes the call is done. The layers
--- differ in their answers, and all of them go through their tests so.
-abbrev pub firstRefusal : {A : Type 0} → (done : A) → List (Test A) → A
-firstRefusal done [] = done
-firstRefusal done (x ∷ xs) = unless (x .0) (x .1) (firstRefusal done xs)
 
 -- This test says that the call is done, which is number 0.
 abbrev pub isDone : Answer → Bool

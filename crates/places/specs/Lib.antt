@@ -1,11 +1,6 @@
 pub mod Answers
 pub mod InnerWalks
-pub mod Numbers
-pub mod Parts
-pub mod Pick
 pub mod Places
-pub mod Search
 pub mod Sizes
-pub mod Tab
 pub mod Takes
 pub mod Transposes

@@ -2,15 +2,14 @@
 -- fails. The table stands here once. Each call has a list of what it takes, beside the call, in the order of the table's numbers, so the
 -- lowest number that applies is the one that is given.
 -- Assumes nothing.
-use mathlib.Core.Bool.{Bool}
 use mathlib.Core.List.{List, map}
 use Prim.Native.Nat.{ℕ, _*_}
 use lib.Dec.{eqb, leb, ltb}
 use lib.ListN.{length}
+use Rattle.lists.specs.Tests.{Test, firstRefusal, long}
+use Rattle.lists.specs.Search.{firstBeyond}
 use Rattle.places.specs.declared.Answer.{Answer}
 use Rattle.places.specs.declared.Answer.the-variants.{Done, Width, Block, Packed, Base, Lists, Index, Dictionary}
-use Rattle.places.specs.Answers.{Test, firstRefusal}
-use Rattle.places.specs.Search.{firstBeyond}
 use Rattle.places.specs.Sizes.{lanes}
 
 -- These are the things that a call can take and that the table speaks of.
@@ -31,10 +30,6 @@ pub data Taken : Type 0 where
   an-index-list : (list : List ℕ) → Taken
   -- or a list of indices into a dictionary.
   dictionary-indices : (dictionary list : List ℕ) → Taken
-
--- This test says that the list has n entries.
-abbrev pub long : (n : ℕ) (list : List ℕ) → Bool
-long n list = eqb (length list) n
 
 -- This is the table: the test that is made of each of them, and the refusal where it fails. An index is looked at at every width (document 02,
 -- Item 2). Numbers 6 and 7 carry the lowest bad place of a list, and 6 carries 0 for one index.

@@ -4,9 +4,9 @@
 use mathlib.Core.List.{List, [], _∷_}
 use Prim.Native.Nat.{ℕ}
 use lib.ListN.{getD}
+use Rattle.lists.specs.Tab.{tab}
 use Rattle.places.specs.Answers.{left}
 use Rattle.places.specs.Places.{source, target}
-use Rattle.places.specs.Tab.{tab}
 use Rattle.places.specs.Takes.{Taken, a-block, answerFor}
 
 -- Transpose puts at i the value found at the source of i.

@@ -8,8 +8,8 @@ use native.Mathlib.Numerals.{add-one}
 use native.Mathlib.Omega.{arith}
 use lib.Arith.{digits-lt}
 use lib.Pow.{pow-mono, shl-exact}
-use Rattle.places.specs.Numbers.{number, digit}
-use Rattle.places.proofs.Digits.{number-lt, digit-lt}
+use Rattle.lists.specs.Numbers.{number, digit}
+use Rattle.lists.proofs.Digits.{number-lt, digit-lt}
 use Rattle.plain.specs.Plain.{bit, bitAt, bitOf}
 
 -- bit i, by a shift

@@ -7,12 +7,12 @@ use native.Mathlib.Nat.{one-mul, mul-comm, mod-lt, div-add-mod', div-lt-iff-lt-m
 use native.Mathlib.Omega.{arith}
 use lib.Arith.{digits-lt, digits-div, digits-mod}
 use lib.ListN.{getD}
-use Rattle.places.specs.Numbers.{Elements}
+use Rattle.lists.specs.Numbers.{Elements}
+use Rattle.lists.proofs.Digits.{number-ext, digit-number, number-digits}
+use Rattle.lists.proofs.Tabs.{length-tab, getD-tab, is-tab}
 use Rattle.places.specs.Places.{place}
 use Rattle.places.specs.Sizes.{Size, lanes}
-use Rattle.places.proofs.Digits.{number-ext, digit-number, number-digits}
 use Rattle.places.proofs.Places.{size-some, lanes-some}
-use Rattle.places.proofs.Tabs.{length-tab, getD-tab, is-tab}
 use Rattle.plain.specs.Plain.{bit, bitAt, bitOf, wordIn, plainPack, Laid}
 use Rattle.plain.proofs.Bits.{bitOf-small, lane-bit, word-bit}
 

@@ -9,11 +9,11 @@ use native.Mathlib.Numerals.{add-one}
 use native.Mathlib.Omega.{arith}
 use lib.Dec.{eqb, leb, ltb}
 use borrow.Author.Tests.{le-leb, lt-ltb, leb-true, ltb-true}
-use Rattle.places.specs.Pick.{pick, both}
+use Rattle.lists.specs.Pick.{pick, both}
+use Rattle.lists.proofs.Tests.{both-true, false-true}
 use Rattle.places.specs.Places.{place, lane, row}
 use Rattle.places.specs.Sizes.{Size, lanes}
 use Rattle.places.proofs.Places.{each, size-most, place-row-lane, place-lane, lane-lt, row-lt, row-place, order-lt}
-use Rattle.places.proofs.Tests.{both-true, false-true}
 use Rattle.plain.specs.Plain.{wordOf, newWord, wordsFor}
 
 -- LANES is at most 128

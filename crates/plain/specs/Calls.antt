@@ -3,9 +3,9 @@
 -- Assumes nothing.
 use mathlib.Core.List.{List, [], _∷_}
 use Prim.Native.Nat.{ℕ}
+use Rattle.lists.specs.Pick.{pick}
 use Rattle.places.specs.declared.Answer.{Answer}
 use Rattle.places.specs.Answers.{isDone, left}
-use Rattle.places.specs.Pick.{pick}
 use Rattle.places.specs.Sizes.{largestU64}
 use Rattle.places.specs.Takes.{Taken, a-width, a-block, a-packed, an-index, answerFor}
 use Rattle.plain.specs.Plain.{plainValue, plainUnpack, plainPack, plainCount}

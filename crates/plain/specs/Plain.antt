@@ -9,11 +9,11 @@ use mathlib.Core.Path.{_≡_}
 use Prim.Native.Nat.{ℕ, zero, suc, _+_, _-_, _*_, _/_, _%_, _<_}
 use lib.Dec.{eqb}
 use lib.ListN.{length, getD}
-use Rattle.places.specs.Numbers.{number, digit}
-use Rattle.places.specs.Pick.{pick}
+use Rattle.lists.specs.Numbers.{number, digit}
+use Rattle.lists.specs.Pick.{pick}
+use Rattle.lists.specs.Tab.{tab}
 use Rattle.places.specs.Places.{place, lane, row}
 use Rattle.places.specs.Sizes.{lanes}
-use Rattle.places.specs.Tab.{tab}
 
 -- Bit i of a number is its digit i, with one bit to a digit.
 abbrev pub bit : (m i : ℕ) → ℕ

@@ -13,7 +13,7 @@ use places::order;
 ghost use mathlib.Core.Path.{_≡_};
 ghost use Prim.Native.Nat.{_+_, _*_, _%_, _≤_, _<_};
 ghost use lib.Dec.{leb, ltb};
-ghost use Rattle.places.specs.Pick.{both};
+ghost use Rattle.lists.specs.Pick.{both};
 ghost use Rattle.places.specs.Places as Places;
 ghost use Rattle.places.specs.Sizes.{Size, lanes};
 ghost use Rattle.plain.specs.Plain.{wordOf, newWord, wordsFor};

@@ -7,12 +7,12 @@ use Prim.Native.Nat.{ℕ, _*_, _≤_, _<_}
 use native.Mathlib.Decide.{decLe}
 use native.Mathlib.Omega.{arith}
 use lib.ListN.{length, getD}
+use Rattle.lists.specs.Search.{firstBeyond}
+use Rattle.lists.proofs.Search.{first-beyond-before, first-beyond-none}
 use Rattle.places.specs.declared.Answer.{Answer}
 use Rattle.places.specs.declared.Answer.the-variants.{Done, Index}
 use Rattle.places.specs.Answers.{numberOf, placeOf}
-use Rattle.places.specs.Search.{firstBeyond}
 use Rattle.places.specs.Sizes.{lanes}
-use Rattle.places.proofs.Search.{first-beyond-before, first-beyond-none}
 use Rattle.places.specs.Takes.{answerFor}
 use Rattle.access.specs.Calls.{singleTakes, singleOf, listTakes, listLeaves}
 use Rattle.access.specs.Counts.{countsOf}

@@ -12,17 +12,17 @@ use lib.Dec.{eqb, lit<, lit≤}
 use lib.ListN.{length, getD, List·getD-eq-default}
 use lib.Pow.{pow-pos}
 use borrow.Author.Tests.{ne-eqb}
-use Rattle.places.specs.Numbers.{number, digit, plus, minus, Elements}
-use Rattle.places.specs.Pick.{pick}
+use Rattle.lists.specs.Numbers.{number, digit, plus, minus, Elements}
+use Rattle.lists.specs.Pick.{pick}
+use Rattle.lists.specs.Tab.{tab, tabFrom}
+use Rattle.lists.proofs.Digits.{number-ext, elements-of}
+use Rattle.lists.proofs.Every.{Same, same}
+use Rattle.lists.proofs.Search.{first-beyond-none}
+use Rattle.lists.proofs.Tabs.{getD-tab, length-tab}
 use Rattle.places.specs.Places.{order, place, lane, row, source}
 use Rattle.places.specs.Sizes.{Size, lanes}
-use Rattle.places.specs.Tab.{tab, tabFrom}
 use Rattle.places.specs.Transposes.{transposeOf, untransposeOf, transposeLeaves, untransposeLeaves}
-use Rattle.places.proofs.Digits.{number-ext, elements-of}
-use Rattle.places.proofs.Every.{Same, same}
 use Rattle.places.proofs.Places.{size8, size16, size32, size64, lane-place, row-place, target-source, source-lt}
-use Rattle.places.proofs.Search.{first-beyond-none}
-use Rattle.places.proofs.Tabs.{getD-tab, length-tab}
 use Rattle.places.proofs.Walks.{good-blocks}
 use Rattle.packing.specs.Calls.{packLeaves}
 use Rattle.packing.specs.Packed.{word, part, wordsNumber, valuesNumber, valueAt}

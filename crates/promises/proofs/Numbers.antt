@@ -11,16 +11,16 @@ use mathlib.Core.Path.{_≡_, refl, sym, ap, ap₂, _∙_}
 use Prim.Native.Nat.{ℕ, _*_, _≤_, _<_}
 use native.Mathlib.Omega.{arith}
 use lib.ListN.{length, getD}
+use Rattle.lists.specs.Search.{firstBeyond}
+use Rattle.lists.specs.Tab.{tab}
+use Rattle.lists.proofs.Tabs.{tab-ext}
 use Rattle.places.specs.declared.Answer.{Answer}
 use Rattle.places.specs.declared.Answer.the-variants.{Done}
 use Rattle.places.specs.Answers.{numberOf, placeOf, left}
 use Rattle.places.specs.Places.{row}
-use Rattle.places.specs.Search.{firstBeyond}
 use Rattle.places.specs.Sizes.{lanes}
-use Rattle.places.specs.Tab.{tab}
 use Rattle.places.specs.Takes.{answerFor}
 use Rattle.places.specs.Transposes.{transposeTakes}
-use Rattle.places.proofs.Tabs.{tab-ext}
 use Rattle.packing.specs.Calls.{packTakes}
 use Rattle.packing.specs.Packed.{valueAt}
 use Rattle.packing.proofs.Rounds.{value-zero}

@@ -10,16 +10,17 @@ use native.Mathlib.Omega.{arith}
 use lib.Dec.{eqb, ltb}
 use lib.ListN.{length, getD}
 use borrow.Author.Tests.{lt-ltb, ltb-true, ltb-false, leb-true, leb-false, eqb-true, eqb-false}
+use Rattle.lists.specs.Tests.{unless}
+use Rattle.lists.specs.Pick.{pick, both, either}
+use Rattle.lists.specs.Search.{firstBeyond}
+use Rattle.lists.proofs.Tests.{both-true, either-true, false-true}
+use Rattle.lists.proofs.Search.{first-beyond-le, first-beyond-before, first-beyond-at, first-beyond-only, first-beyond-none}
 use Rattle.places.specs.declared.Answer.{Answer}
 use Rattle.places.specs.declared.Answer.the-variants.{Done, Width, Block, Packed, Base, Lists, Index, Dictionary}
-use Rattle.places.specs.Answers.{numberOf, placeOf, unless}
-use Rattle.places.specs.Pick.{pick, both, either}
-use Rattle.places.specs.Search.{firstBeyond}
+use Rattle.places.specs.Answers.{numberOf, placeOf}
 use Rattle.places.specs.Sizes.{lanes}
 use Rattle.places.specs.Takes.{Taken, tested, answerFor}
 use Rattle.places.specs.Takes.{a-width, a-block, a-packed, a-base, two-lists, an-index, an-index-list, dictionary-indices}
-use Rattle.places.proofs.Tests.{both-true, either-true, false-true}
-use Rattle.places.proofs.Search.{first-beyond-le, first-beyond-before, first-beyond-at, first-beyond-only, first-beyond-none}
 use Rattle.promises.specs.Tables.{Lowest, numberFor, Condition, Applies, Given, Gives, Exactly}
 
 -- ---- the lowest place

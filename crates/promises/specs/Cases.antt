@@ -5,8 +5,8 @@ use mathlib.Core.List.{List, [], _∷_}
 use mathlib.Core.Path.{_≡_}
 use Prim.Native.Nat.{ℕ, _*_, _<_}
 use lib.ListN.{length, getD}
+use Rattle.lists.specs.Numbers.{minus, Elements}
 use Rattle.places.specs.declared.Answer.the-variants.{Done}
-use Rattle.places.specs.Numbers.{minus, Elements}
 use Rattle.places.specs.Places.{place, lane, row, source}
 use Rattle.places.specs.Sizes.{t8, t16, t32, t64, lanes}
 use Rattle.places.specs.Takes.{answerFor}

@@ -8,8 +8,8 @@ use native.Mathlib.Nat.{mul-le-mul, suc-mul}
 use native.Mathlib.Omega.{arith}
 use lib.Dec.{eqb}
 use borrow.Author.Tests.{eqb-true}
-use Rattle.places.specs.Pick.{either}
-use Rattle.places.proofs.Tests.{either-true}
+use Rattle.lists.specs.Pick.{either}
+use Rattle.lists.proofs.Tests.{either-true}
 use Rattle.replay.specs.Elements.{isSize}
 
 module _ (size : ℕ) (is : isSize size ≡ true) where

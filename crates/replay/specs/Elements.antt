@@ -3,7 +3,7 @@
 use mathlib.Core.Bool.{Bool}
 use Prim.Native.Nat.{ℕ}
 use lib.Dec.{eqb}
-use Rattle.places.specs.Pick.{either}
+use Rattle.lists.specs.Pick.{either}
 
 -- An element has one, two, four or eight bytes.
 abbrev pub isSize : ℕ → Bool

@@ -5,7 +5,7 @@ use stream::Head;
 use stream::Reply;
 ghost use mathlib.Core.Path.{_≡_};
 ghost use lib.ListN.{getD};
-ghost use Rattle.places.specs.Tab.{tab};
+ghost use Rattle.lists.specs.Tab.{tab};
 
 // A bit block is sixteen numbers, no more and no fewer: a record of these calls with other counts is no case.
 pub fn call(head: Head, a: &Wide, c: &mut Wide) -> Reply {

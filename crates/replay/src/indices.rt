@@ -3,7 +3,7 @@ use crate::Wide;
 ghost use mathlib.Core.Path.{_≡_};
 ghost use Prim.Native.Nat.{_≤_};
 ghost use lib.ListN.{getD};
-ghost use Rattle.places.specs.Tab.{tab};
+ghost use Rattle.lists.specs.Tab.{tab};
 ghost use Rattle.io.specs.Counts.{Counts};
 
 // The numbers as indices.

@@ -13,7 +13,7 @@ ghost use mathlib.Core.Path.{_≡_};
 ghost use mathlib.Core.Bool.{true};
 ghost use Prim.Native.Nat.{_+_, _*_, _/_, _≤_};
 ghost use lib.ListN.{length};
-ghost use Rattle.places.specs.Tab.{tab, over};
+ghost use Rattle.lists.specs.Tab.{tab, over};
 ghost use Rattle.little.specs.Little.{little};
 ghost use Rattle.replay.specs.Elements.{isSize};
 

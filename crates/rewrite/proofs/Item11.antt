@@ -10,12 +10,12 @@ use native.Mathlib.Decide.{decLe, ℕ-discrete}
 use native.Mathlib.Omega.{arith}
 use borrow.Author.Tests.{ne-eqb}
 use lib.ListN.{length, take, drop}
-use Rattle.places.specs.Numbers.{Elements}
-use Rattle.places.specs.Pick.{pick}
+use Rattle.lists.specs.Numbers.{Elements}
+use Rattle.lists.specs.Pick.{pick}
+use Rattle.lists.specs.Tab.{over}
+use Rattle.lists.proofs.Overs.{over-front, over-rest}
+use Rattle.lists.proofs.Tabs.{is-tab}
 use Rattle.places.specs.Sizes.{t64}
-use Rattle.places.specs.Tab.{over}
-use Rattle.places.proofs.Overs.{over-front, over-rest}
-use Rattle.places.proofs.Tabs.{is-tab}
 use Rattle.contents.specs.declared.FileAnswer.{FileAnswer}
 use Rattle.contents.specs.declared.FileAnswer.the-variants.{Done, Room}
 use Rattle.contents.specs.Answers.{fileAnswer, numberOf, isDone, left}

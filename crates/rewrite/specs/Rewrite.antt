@@ -4,8 +4,8 @@ use mathlib.Core.List.{List, [], _∷_, _++_}
 use Prim.Native.Nat.{ℕ}
 use lib.Dec.{leb}
 use lib.ListN.{length}
-use Rattle.places.specs.Pick.{pick}
-use Rattle.places.specs.Tab.{over}
+use Rattle.lists.specs.Pick.{pick}
+use Rattle.lists.specs.Tab.{over}
 use Rattle.contents.specs.declared.FileAnswer.the-variants.{Room}
 use Rattle.contents.specs.Answers.{FileTest, fileAnswer, isDone, left}
 use Rattle.files.specs.Files.{rowsOf, fileTests}

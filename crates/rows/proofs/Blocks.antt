@@ -13,11 +13,11 @@ use lib.ListN.{length, getD, take, drop, length-take, length-drop, drop-of-lengt
 use lib.Seq.{ext-getD, getD-take, getD-drop, drop-drop}
 use borrow.Rule.Slice.PartMut.{putMid}
 use borrow.Author.Tests.{le-leb, lt-leb, lt-ltb, le-ltb}
+use Rattle.lists.specs.Tab.{tab, over}
+use Rattle.lists.proofs.Tabs.{length-tab, getD-tab, tab-ext, is-tab, tab-getD, length-over, getD-over-in, getD-over-before, getD-over-after}
 use Rattle.places.specs.Places.{place, lane, row}
 use Rattle.places.specs.Sizes.{Size, lanes}
-use Rattle.places.specs.Tab.{tab, over}
 use Rattle.places.proofs.Places.{size-most, lanes-some, place-row-lane, lane-lt, row-lt, row-place, place-lt, place-lane, row-within}
-use Rattle.places.proofs.Tabs.{length-tab, getD-tab, tab-ext, is-tab, tab-getD, length-over, getD-over-in, getD-over-before, getD-over-after}
 use Rattle.rows.specs.InnerBlocks.{rowsOver}
 use Rattle.rows.specs.Rows.{loadOf, storeOf}
 use Rattle.rows.proofs.Rows.{load-room, store-room}

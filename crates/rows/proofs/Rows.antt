@@ -9,10 +9,10 @@ use lib.Bits.{bitOr}
 use lib.ListN.{length, getD}
 use lib.Pow.{pow-lt}
 use borrow.Author.Tests.{le-leb, lt-leb}
+use Rattle.lists.specs.Tab.{tab, over}
+use Rattle.lists.specs.Numbers.{plus, minus}
+use Rattle.lists.proofs.Tabs.{tab-ext, getD-tab}
 use Rattle.places.specs.Sizes.{lanes}
-use Rattle.places.specs.Tab.{tab, over}
-use Rattle.places.proofs.Tabs.{tab-ext, getD-tab}
-use Rattle.places.specs.Numbers.{plus, minus}
 use Rattle.rows.specs.Rows.{splatOf, loadOf, storeOf, shrOf, orShlOf, maskOf, addOf, subOf}
 
 -- one, shifted up by less than t, is the power itself

@@ -6,9 +6,9 @@ use mathlib.Core.Bool.{Bool}
 use Prim.Native.Nat.{ℕ, _+_}
 use lib.Dec.{leb, ltb}
 use lib.ListN.{getD}
-use Rattle.places.specs.Pick.{pick, both}
+use Rattle.lists.specs.Pick.{pick, both}
+use Rattle.lists.specs.Tab.{tab}
 use Rattle.places.specs.Places.{row}
-use Rattle.places.specs.Tab.{tab}
 
 -- This test says that k is one of the n numbers from a on.
 abbrev pub among : (a n k : ℕ) → Bool

@@ -6,10 +6,10 @@ use Prim.Native.Nat.{ℕ, _*_, _/_, _%_, _^_}
 use lib.Bits.{bitOr}
 use lib.Dec.{leb}
 use lib.ListN.{length, getD}
-use Rattle.places.specs.Numbers.{plus, minus}
-use Rattle.places.specs.Pick.{pick}
+use Rattle.lists.specs.Numbers.{plus, minus}
+use Rattle.lists.specs.Pick.{pick}
+use Rattle.lists.specs.Tab.{tab, over}
 use Rattle.places.specs.Sizes.{lanes}
-use Rattle.places.specs.Tab.{tab, over}
 
 -- `splat` gives one value in every lane.
 unfoldable pub splatOf : (t value : ℕ) → List ℕ

@@ -6,12 +6,12 @@ use Prim.Native.Nat.{ℕ, _≤_, _<_}
 use native.Mathlib.Omega.{arith}
 use lib.ListN.{length}
 use borrow.Author.Tests.{eq-eqb, ne-eqb}
+use Rattle.lists.specs.Search.{firstBeyond}
+use Rattle.lists.specs.Ends.{highestOf}
+use Rattle.lists.proofs.Highs.{highest-beyond}
 use Rattle.places.specs.declared.Answer.the-variants.{Done, Block, Dictionary}
-use Rattle.places.specs.Search.{firstBeyond}
 use Rattle.places.specs.Takes.{answerFor}
 use Rattle.runs.specs.Calls.{decodeTakes}
-use Rattle.runs.specs.Highest.{highestOf}
-use Rattle.runs.proofs.Highs.{highest-beyond}
 
 module _ (dictionary indices output : List ℕ) where
   pub decode-bad-indices : (length indices ≡ 1024 → ⊥) → answerFor (decodeTakes dictionary indices output) ≡ Block

@@ -4,7 +4,7 @@
 use mathlib.Core.List.{List}
 use Prim.Native.Nat.{ℕ}
 use lib.ListN.{getD}
-use Rattle.places.specs.Tab.{tab}
+use Rattle.lists.specs.Tab.{tab}
 
 -- Decode puts dictionary[index] at each place.
 unfoldable pub decodeOf : (dictionary indices : List ℕ) → List ℕ

@@ -8,8 +8,8 @@ pub mod t64;
 pub mod t8;
 
 ghost use mathlib.Core.Path.{_≡_};
-ghost use Rattle.places.specs.Search.{firstBeyond};
-ghost use Rattle.runs.specs.Highest.{highestOf};
+ghost use Rattle.lists.specs.Search.{firstBeyond};
+ghost use Rattle.lists.specs.Ends.{highestOf};
 
 // The lowest place whose index is `limit` or more; the list's length where there is none.
 fn first_beyond(indices: &[u16], limit: usize) -> usize

@@ -10,27 +10,27 @@ use native.Mathlib.Omega.{arith}
 use lib.Dec.{leb, eqb}
 use lib.ListN.{length}
 use borrow.Author.Tests.{le-leb, eq-eqb, ne-eqb, eqb-true}
-use Rattle.places.specs.Pick.{pick}
-use Rattle.places.specs.Tab.{over}
-use Rattle.places.proofs.Overs.{over-nothing}
+use Rattle.lists.specs.Pick.{pick}
+use Rattle.lists.specs.Tab.{over}
+use Rattle.lists.specs.Passing.{passing}
+use Rattle.lists.proofs.Overs.{over-nothing}
+use Rattle.lists.proofs.Search.{first-only, first-le}
+use Rattle.lists.proofs.Passing.{passing-length}
 use Rattle.contents.specs.declared.FileAnswer.{FileAnswer}
 use Rattle.contents.specs.declared.FileAnswer.the-variants.{Done, Runs, Range, Room}
 use Rattle.contents.specs.Answers.{fileAnswer, numberOf, isDone, left}
 use Rattle.contents.specs.Contents.{edition, count, rangeOf, contentsTests}
 use Rattle.contents.proofs.Accepted.{done-first}
 use Rattle.contents.proofs.Answers.{passed, stopped, none-left, in-front-done, in-front-refused, left-refused}
-use Rattle.contents.proofs.First.{first-only, first-le}
 use Rattle.bodies.specs.Ranges.{isRange}
 use Rattle.files.specs.Files.{blockIn, hasTrueRange}
 use Rattle.search.specs.declared.Found.{Found}
 use Rattle.search.specs.declared.Found.the-variants.{Rows, Refused}
 use Rattle.search.specs.InnerBlocks.{asked, badIn}
 use Rattle.search.specs.Steps.{inBlock}
-use Rattle.search.specs.Passing.{passing}
 use Rattle.search.specs.Search.{opens, opened, found, badRunsIn, badRangeIn, openedTests, searchTests, foundOf, searchLeaves}
 use Rattle.search.proofs.Blocks.{in-long}
 use Rattle.search.proofs.Listing.{more-pass, same-pass, pass-mono}
-use Rattle.search.proofs.Passing.{passing-length}
 use Rattle.search.proofs.Walks.{foundTo, found-length, found-shut, found-all}
 
 -- A list of no entries is empty.

@@ -8,8 +8,9 @@ use native.Mathlib.Nat.{zero-add}
 use native.Mathlib.Omega.{arith}
 use lib.Dec.{eqb}
 use lib.ListN.{length, getD}
-use Rattle.places.specs.Pick.{pick, both}
-use Rattle.places.proofs.Tabs.{length-tab}
+use Rattle.lists.specs.Pick.{pick, both}
+use Rattle.lists.proofs.Tabs.{length-tab}
+use Rattle.lists.proofs.Passing.{passing-shift}
 use Rattle.packing.specs.Packed.{unpackOf}
 use Rattle.deltas.specs.Deltas.{unforPackOf, undeltaPackOf}
 use Rattle.runs.specs.Runs.{decodeOf}
@@ -18,7 +19,6 @@ use Rattle.bodies.specs.Bodies.{blockOf}
 use Rattle.files.specs.Files.{blockIn, rowAt}
 use Rattle.search.specs.Search.{between, opens, listed}
 use Rattle.search.specs.Steps.{inBlock, foundIn}
-use Rattle.search.proofs.Passing.{passing-shift}
 
 -- Row `first` + j of a block is its value j.
 pub in-block : (block : List ℕ) (first low high j : ℕ) → inBlock block first low high (first + j) ≡ between low high (getD block j 0)

@@ -1,9 +1,7 @@
 pub mod Answers
 pub mod Blocks
 pub mod Listing
-pub mod Members
 pub mod OneBlock
-pub mod Passing
 pub mod Reasons
 pub mod Searched
 pub mod Theorems

@@ -6,10 +6,10 @@ use mathlib.Core.Path.{_≡_, sym, ap, ap₂, _∙_}
 use Prim.Native.Nat.{ℕ, _+_, _-_, _≤_, _<_}
 use native.Mathlib.Omega.{arith}
 use lib.ListN.{length, length-append, set}
-use Rattle.places.specs.Tab.{over}
-use Rattle.places.proofs.Overs.{length-over, set-over, over-nothing, over-append}
-use Rattle.search.specs.Passing.{passing}
-use Rattle.search.proofs.Passing.{one, passing-none-yet, passing-next, passing-split}
+use Rattle.lists.specs.Tab.{over}
+use Rattle.lists.specs.Passing.{passing}
+use Rattle.lists.proofs.Overs.{length-over, set-over, over-nothing, over-append}
+use Rattle.lists.proofs.Passing.{one, passing-none-yet, passing-next, passing-split}
 
 module _ (s : ℕ) (test : ℕ → Bool) where
   -- How many pass, by whether one more does.

@@ -8,7 +8,8 @@ use native.Mathlib.Omega.{arith}
 use lib.Dec.{leb}
 use lib.ListN.{length}
 use borrow.Author.Tests.{lt-ltb, le-ltb, le-leb, eq-eqb, ne-eqb}
-use Rattle.places.specs.Tab.{over}
+use Rattle.lists.specs.Tab.{over}
+use Rattle.lists.proofs.Passing.{passing-length}
 use Rattle.contents.specs.declared.FileAnswer.{FileAnswer}
 use Rattle.contents.specs.declared.FileAnswer.the-variants.{Done, Block, Beyond, Room}
 use Rattle.contents.specs.Answers.{fileAnswer, numberOf}
@@ -17,7 +18,6 @@ use Rattle.search.specs.declared.Found.the-variants.{Rows, Refused}
 use Rattle.search.specs.Steps.{inBlock, foundIn, rowsIn, listedTests, listedOf, listedLeaves}
 use Rattle.search.proofs.Answers.{given-refused, given-done}
 use Rattle.search.proofs.Blocks.{found-shift}
-use Rattle.search.proofs.Passing.{passing-length}
 
 module _ (block : List ℕ) (i low high : ℕ) (rows : List ℕ) where
   pub listed-refused : {a : FileAnswer} → fileAnswer (listedTests block i low high rows) ≡ a → (numberOf a ≡ 0 → ⊥)

@@ -10,14 +10,14 @@ use native.Mathlib.Omega.{arith}
 use lib.Dec.{eqb}
 use lib.ListN.{length}
 use borrow.Author.Tests.{le-leb, lt-leb}
-use Rattle.places.specs.Pick.{pick}
-use Rattle.places.proofs.Tests.{false-true}
+use Rattle.lists.specs.Pick.{pick}
+use Rattle.lists.specs.Search.{firstBad}
+use Rattle.lists.proofs.Tests.{false-true}
+use Rattle.lists.proofs.Search.{first-at}
 use Rattle.contents.specs.declared.FileAnswer.{FileAnswer}
 use Rattle.contents.specs.declared.FileAnswer.the-variants.{Done, Runs, Range, Room}
 use Rattle.contents.specs.Answers.{FileTest, fileAnswer, numberOf}
 use Rattle.contents.specs.Contents.{count, entryOf, contentsTests}
-use Rattle.contents.specs.First.{firstBad}
-use Rattle.contents.proofs.First.{first-at}
 use Rattle.contents.proofs.Answers.{passed, stopped, none-left, in-front-done, in-front-refused, number-done}
 use Rattle.files.specs.Files.{bodyOf, badRuns, badRange}
 use Rattle.files.specs.Plain.{GoodRuns, TrueRange, Right, Reason}

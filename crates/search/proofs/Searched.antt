@@ -11,14 +11,16 @@ use native.Mathlib.Omega.{arith}
 use lib.Dec.{eqb, leb}
 use lib.ListN.{length}
 use borrow.Author.Tests.{eq-eqb}
-use Rattle.places.specs.Pick.{pick}
-use Rattle.places.specs.Tab.{over}
+use Rattle.lists.specs.Pick.{pick}
+use Rattle.lists.specs.Tab.{over}
+use Rattle.lists.specs.Passing.{passing}
+use Rattle.lists.proofs.Search.{first-ext}
+use Rattle.lists.proofs.Passing.{passing-none-yet, passing-ext}
 use Rattle.contents.specs.declared.FileAnswer.{FileAnswer}
 use Rattle.contents.specs.declared.FileAnswer.the-variants.{Done, Range, Room, Runs}
 use Rattle.contents.specs.Answers.{fileAnswer, numberOf, isDone, left}
 use Rattle.contents.specs.Contents.{count, countOr, entryOr, contentsTests}
 use Rattle.contents.proofs.Answers.{passed, in-front-done, in-front-refused, left-refused, number-done}
-use Rattle.contents.proofs.First.{first-ext}
 use Rattle.bodies.specs.Bodies.{blockOf}
 use Rattle.bodywise.specs.Steps.{bodyTests, blockTests, blockLeaves, rangeTests, stepOf, frontOf}
 use Rattle.bodywise.proofs.Fronts.{Front, front-right}
@@ -28,11 +30,9 @@ use Rattle.files.specs.Files.{bodyOf, hasTrueRange}
 use Rattle.files.proofs.Files.{goodIn}
 use Rattle.files.proofs.Held.{block-is, chosen-refused, chosen-bodies}
 use Rattle.search.specs.declared.Found.the-variants.{Rows, Refused}
-use Rattle.search.specs.Passing.{passing}
 use Rattle.search.specs.Search.{opens, opened, listed, found, badRunsIn, badRangeIn, openedTests, searchTests, foundOf, searchLeaves}
 use Rattle.search.specs.Steps.{opensBy, rowsIn, rowsAfter, rowsBy, answerBy, searchedBy, leftBy}
 use Rattle.search.proofs.Answers.{search-refused, contents-first, given-refused}
-use Rattle.search.proofs.Passing.{passing-none-yet, passing-ext}
 use Rattle.search.proofs.Walks.{foundTo, front-opens, found-open, found-shut, found-all}
 
 -- One opened body more: the answer is that of laying its block down, and behind it that of the range of the block that was laid down.

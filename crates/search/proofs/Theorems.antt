@@ -10,10 +10,14 @@ use native.Mathlib.Omega.{arith}
 use lib.Dec.{leb, eqb}
 use lib.ListN.{length, getD, take, drop}
 use borrow.Author.Tests.{le-leb, leb-true, eq-eqb, eqb-true}
-use Rattle.places.specs.Numbers.{Elements}
-use Rattle.places.specs.Pick.{pick, both, either}
-use Rattle.places.proofs.Overs.{over-front, over-rest}
-use Rattle.places.proofs.Tests.{both-true, either-true, not-then, false-true}
+use Rattle.lists.specs.Numbers.{Elements}
+use Rattle.lists.specs.Pick.{pick, both, either}
+use Rattle.lists.specs.Passing.{passing}
+use Rattle.lists.specs.Members.{Stands, Rising}
+use Rattle.lists.proofs.Overs.{over-front, over-rest}
+use Rattle.lists.proofs.Tests.{both-true, either-true, not-then, false-true}
+use Rattle.lists.proofs.Members.{stands-passes, passes-stands, passing-rises}
+use Rattle.lists.proofs.Passing.{passing-ext}
 use Rattle.contents.specs.declared.FileAnswer.{FileAnswer}
 use Rattle.contents.specs.declared.FileAnswer.the-variants.{Done}
 use Rattle.contents.specs.declared.Range.{Range}
@@ -25,13 +29,10 @@ use Rattle.bodywise.proofs.Told.{whole}
 use Rattle.files.proofs.Ranges.{contents-right, file-runs, file-spans}
 use Rattle.search.specs.declared.Found.{Found}
 use Rattle.search.specs.declared.Found.the-variants.{Rows, Refused}
-use Rattle.search.specs.Passing.{passing}
-use Rattle.search.specs.Plain.{Common, Opened, Stands, RowBetween, Rising}
+use Rattle.search.specs.Plain.{Common, Opened, RowBetween}
 use Rattle.search.specs.Search.{between, meets, opens, opened, listed, found, searchTests, foundOf, searchLeaves, answerOf, rowsFound, blocksOpened}
 use Rattle.search.proofs.Answers.{search-refused, search-done}
 use Rattle.search.proofs.Blocks.{in-long}
-use Rattle.search.proofs.Members.{stands-passes, passes-stands, passing-rises}
-use Rattle.search.proofs.Passing.{passing-ext}
 
 -- The test of a range says that it has a number in common with the bounds.
 pub meets-common : (r : Range) (low high : ℕ) → (meets r low high ≡ true) ↔ Common r low high

@@ -10,23 +10,23 @@ use native.Mathlib.Omega.{arith}
 use lib.Dec.{eqb, leb}
 use lib.ListN.{length, getD}
 use borrow.Author.Tests.{ne-eqb}
-use Rattle.places.specs.Pick.{pick, both, either}
-use Rattle.places.specs.Tab.{over}
+use Rattle.lists.specs.Pick.{pick, both, either}
+use Rattle.lists.specs.Tab.{over}
+use Rattle.lists.specs.Search.{firstBad}
+use Rattle.lists.specs.Passing.{passing}
+use Rattle.lists.proofs.Search.{first-ext}
+use Rattle.lists.proofs.Passing.{passing-ext}
 use Rattle.little.specs.Little.{little}
 use Rattle.contents.specs.declared.FileAnswer.the-variants.{BadEntry, Cut, Edition, Over, Range, Room, Runs}
 use Rattle.contents.specs.Answers.{fileAnswer, isDone, left}
 use Rattle.contents.specs.Contents.{edition, count, contentsSize, entryAt, entryOf, rangeAt, rangeOf, anyRange, isLaidOut, isTakenIn, isOrdered, isRight, badEntry, bodiesSize, bodyStart, contentsTests}
-use Rattle.contents.specs.First.{firstBad}
-use Rattle.contents.proofs.First.{first-ext}
 use Rattle.contents.proofs.Sizes.{size-entry, size-range, size-before}
 use Rattle.bodies.specs.Bodies.{blockOf, hasGoodRuns}
 use Rattle.bodies.specs.Ranges.{isRange}
 use Rattle.files.specs.Files.{bodyOf, blockIn, hasTrueRange, rowCount, rowAt}
 use Rattle.search.specs.declared.Found.the-variants.{Rows, Refused}
-use Rattle.search.specs.Passing.{passing}
 use Rattle.search.specs.Search.{between, meets, opens, opened, listed, found, badRunsIn, badRangeIn, searchTests, foundOf, searchLeaves}
 use Rattle.search.specs.Unopened.{SameOpened}
-use Rattle.search.proofs.Passing.{passing-ext}
 
 -- A number is the same where its bytes are.
 little-same : (l m : List ℕ) (k at n : ℕ) → at + n ≤ k → ((j : ℕ) → j < k → getD m j 0 ≡ getD l j 0) → little m at n ≡ little l at n

@@ -8,22 +8,22 @@ use native.Mathlib.Nat.{zero-add}
 use native.Mathlib.Omega.{arith}
 use lib.Dec.{eqb}
 use lib.ListN.{length, length-append}
-use Rattle.places.specs.Pick.{pick, either}
-use Rattle.places.specs.Tab.{over}
-use Rattle.places.proofs.Overs.{over-append}
+use Rattle.lists.specs.Pick.{pick, either}
+use Rattle.lists.specs.Tab.{over}
+use Rattle.lists.specs.Passing.{passing}
+use Rattle.lists.proofs.Overs.{over-append}
+use Rattle.lists.proofs.Search.{first-before}
+use Rattle.lists.proofs.Passing.{passing-split, passing-ext, passing-nothing}
 use Rattle.contents.specs.declared.FileAnswer.the-variants.{Done}
 use Rattle.contents.specs.Answers.{fileAnswer}
 use Rattle.contents.specs.Contents.{count, contentsTests}
-use Rattle.contents.proofs.First.{first-before}
 use Rattle.bodywise.proofs.Fronts.{Front, whole-front}
 use Rattle.files.specs.Files.{blockIn, rowCount}
 use Rattle.search.specs.InnerBlocks.{asked, badIn}
 use Rattle.search.specs.Steps.{opensBy, inBlock, foundIn}
-use Rattle.search.specs.Passing.{passing}
 use Rattle.search.specs.Search.{meets, opens, listed, found}
 use Rattle.search.proofs.Blocks.{in-long, listed-in, not-listed}
 use Rattle.search.proofs.Listing.{pass-mono}
-use Rattle.search.proofs.Passing.{passing-split, passing-ext, passing-nothing}
 
 -- These are the rows that are found in the blocks below i.
 abbrev pub foundTo : (l : List ℕ) (low high i : ℕ) → List ℕ

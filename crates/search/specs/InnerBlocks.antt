@@ -3,9 +3,9 @@
 use mathlib.Core.Bool.{Bool, true}
 use mathlib.Core.List.{List}
 use Prim.Native.Nat.{ℕ}
-use Rattle.places.specs.Pick.{pick}
+use Rattle.lists.specs.Pick.{pick}
+use Rattle.lists.specs.Search.{firstBad}
 use Rattle.contents.specs.Contents.{count, entryOf}
-use Rattle.contents.specs.First.{firstBad}
 use Rattle.bodies.specs.Bodies.{hasGoodRuns}
 use Rattle.files.specs.Files.{bodyOf, hasTrueRange}
 use Rattle.search.specs.Search.{opens}

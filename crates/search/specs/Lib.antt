@@ -1,5 +1,4 @@
 pub mod InnerBlocks
-pub mod Passing
 pub mod Plain
 pub mod Search
 pub mod Steps

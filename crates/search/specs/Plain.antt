@@ -5,7 +5,7 @@ use mathlib.Core.List.{List}
 use mathlib.Core.Logic.{_⊎_}
 use mathlib.Core.Path.{_≡_}
 use Prim.Native.Nat.{ℕ, _≤_, _<_}
-use lib.ListN.{length, getD}
+use lib.ListN.{length}
 use Rattle.contents.specs.declared.FileAnswer.{FileAnswer}
 use Rattle.contents.specs.declared.FileAnswer.the-variants.{Done, Runs, Room, Range as FalseRange}
 use Rattle.contents.specs.declared.Range.{Range}
@@ -52,14 +52,6 @@ pub data SearchReason (l : List ℕ) (low high : ℕ) (rows : List ℕ) : FileAn
   rows-there : Right l → OpenedGood l low high (count l) → OpenedTrue l low high (count l) → length (found l low high) ≤ length rows
       → SearchReason l low high rows Done
 
--- A number stands in a list at a place.
-abbrev pub Stands : (n : ℕ) (xs : List ℕ) → Type 0
-Stands n xs = (i : ℕ) × (i < length xs) × (getD xs i 0 ≡ n)
-
 -- Row p of the file lies between the bounds.
 abbrev pub RowBetween : (l : List ℕ) (low high p : ℕ) → Type 0
 RowBetween l low high p = (p < rowCount l) × ((low ≤ rowAt l p) × (rowAt l p ≤ high))
-
--- The numbers of a list rise, so each stands there once.
-abbrev pub Rising : (xs : List ℕ) → Type 0
-Rising xs = (i j : ℕ) → i < j → j < length xs → getD xs i 0 < getD xs j 0

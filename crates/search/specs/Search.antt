@@ -6,19 +6,19 @@ use mathlib.Core.List.{List, [], _∷_, _++_}
 use Prim.Native.Nat.{ℕ, _/_, min, max}
 use lib.Dec.{eqb, leb}
 use lib.ListN.{length}
-use Rattle.places.specs.Pick.{pick, both, either}
-use Rattle.places.specs.Tab.{over}
+use Rattle.lists.specs.Pick.{pick, both, either}
+use Rattle.lists.specs.Tab.{over}
+use Rattle.lists.specs.Search.{firstBad}
+use Rattle.lists.specs.Passing.{passing}
 use Rattle.contents.specs.declared.FileAnswer.{FileAnswer}
 use Rattle.contents.specs.declared.FileAnswer.the-variants.{Done, Range as FalseRange, Room, Runs}
 use Rattle.contents.specs.declared.Range.{Range}
 use Rattle.contents.specs.Answers.{FileTest, fileAnswer, isDone, left}
 use Rattle.contents.specs.Contents.{edition, count, entryOf, rangeOf, contentsTests}
-use Rattle.contents.specs.First.{firstBad}
 use Rattle.bodies.specs.Bodies.{hasGoodRuns}
 use Rattle.files.specs.Files.{bodyOf, hasTrueRange, rowCount, rowAt}
 use Rattle.search.specs.declared.Found.{Found}
 use Rattle.search.specs.declared.Found.the-variants.{Rows, Refused}
-use Rattle.search.specs.Passing.{passing}
 
 -- This test says that a value lies between the bounds.
 abbrev pub between : (low high v : ℕ) → Bool

@@ -8,9 +8,10 @@ use mathlib.Core.List.{List, [], _∷_, _++_}
 use Prim.Native.Nat.{ℕ, zero, suc, _*_, _-_}
 use lib.Dec.{eqb, leb, ltb}
 use lib.ListN.{length, getD}
-use Rattle.places.specs.Takes.{long}
-use Rattle.places.specs.Pick.{pick, either}
-use Rattle.places.specs.Tab.{over}
+use Rattle.lists.specs.Tests.{long}
+use Rattle.lists.specs.Pick.{pick, either}
+use Rattle.lists.specs.Tab.{over}
+use Rattle.lists.specs.Passing.{passing}
 use Rattle.contents.specs.declared.FileAnswer.the-variants.{Beyond, Block, Room}
 use Rattle.contents.specs.declared.FileAnswer.{FileAnswer}
 use Rattle.contents.specs.Answers.{FileTest, fileAnswer, isDone, left}
@@ -19,7 +20,6 @@ use Rattle.bodies.specs.Bodies.{blockOf}
 use Rattle.files.specs.Chosen.{chosenAfter}
 use Rattle.search.specs.declared.Found.{Found}
 use Rattle.search.specs.declared.Found.the-variants.{Rows, Refused}
-use Rattle.search.specs.Passing.{passing}
 use Rattle.search.specs.Search.{between, meets}
 
 -- By the contents alone block i is opened where the range that its entry says and the bounds have a number in common, or the edition is 1. Where the

@@ -19,7 +19,7 @@ ghost use mathlib.Core.Path.{_≡_};
 ghost use Prim.Native.Nat.{_+_, _*_, _≤_, _<_};
 ghost use lib.Dec.{leb};
 ghost use lib.ListN.{length};
-ghost use Rattle.places.specs.Tab.{over};
+ghost use Rattle.lists.specs.Tab.{over};
 ghost use Rattle.contents.specs.declared.FileAnswer.the-variants.{Done};
 ghost use Rattle.contents.specs.Answers.{fileAnswer};
 ghost use Rattle.contents.specs.Contents.{edition as editionIn, count as countIn, bodyStart, contentsTests};

@@ -5,7 +5,7 @@ use mathlib.Core.Path.{_≡_, refl}
 use mathlib.Core.List.{List}
 use Prim.Native.Nat.{ℕ, _*_, _<_}
 use lib.ListN.{getD}
-use Rattle.places.proofs.Tabs.{getD-tab}
+use Rattle.lists.proofs.Tabs.{getD-tab}
 use Rattle.little.specs.Little.{little, numbersOf}
 
 -- The answer is yes exactly where the one list is long enough, the other too, and they agree.

@@ -6,8 +6,8 @@ use mathlib.Core.List.{List, []}
 use native.Mathlib.Omega.{arith}
 use Prim.Native.Nat.{ℕ}
 use borrow.Author.Tests.{eqb-true, eq-eqb}
-use Rattle.places.specs.Pick.{pick}
-use Rattle.places.proofs.Tests.{both-true}
+use Rattle.lists.specs.Pick.{pick}
+use Rattle.lists.proofs.Tests.{both-true}
 use Rattle.stream.specs.declared.Head.{Head}
 use Rattle.stream.specs.declared.Reply.{Reply}
 use Rattle.stream.specs.declared.Reply.the-variants.{Unknown, Given}

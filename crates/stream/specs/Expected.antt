@@ -6,7 +6,7 @@ use mathlib.Core.List.{List}
 use Prim.Native.Nat.{ℕ, _<_}
 use lib.Dec.{eqb}
 use lib.ListN.{getD}
-use Rattle.places.specs.Pick.{pick, both}
+use Rattle.lists.specs.Pick.{pick, both}
 use Rattle.stream.specs.declared.Head.{Head}
 use Rattle.stream.specs.declared.Reply.{Reply}
 use Rattle.stream.specs.declared.Reply.the-variants.{Unknown, Given}

@@ -9,11 +9,11 @@ use Prim.Native.Nat.{ℕ, _+_, _*_, _≤_, _<_}
 use native.Mathlib.Omega.{arith}
 use lib.Dec.{eqb}
 use borrow.Author.Tests.{eqb-true}
-use Rattle.places.proofs.Tests.{both-true}
+use Rattle.lists.specs.Ends.{highestOf, lowestOf}
+use Rattle.lists.proofs.Tests.{both-true}
 use Rattle.contents.specs.declared.Entry.{Entry}
 use Rattle.contents.specs.declared.Range.{Range}
-use Rattle.runs.specs.Highest.{highestOf}
-use Rattle.bodies.specs.Ranges.{lowestOf, isRange}
+use Rattle.bodies.specs.Ranges.{isRange}
 use Rattle.summary.specs.Summary.{summaryOf, placeIn}
 
 -- The range of a block that has its true one is the one that is shown.

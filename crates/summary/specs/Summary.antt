@@ -2,9 +2,8 @@
 -- Assumes nothing.
 use mathlib.Core.List.{List}
 use Prim.Native.Nat.{ℕ, _+_, _*_, _-_, _/_, min}
+use Rattle.lists.specs.Ends.{highestOf, lowestOf}
 use Rattle.contents.specs.declared.Entry.{Entry}
-use Rattle.runs.specs.Highest.{highestOf}
-use Rattle.bodies.specs.Ranges.{lowestOf}
 use Rattle.summary.specs.declared.Summary.{Summary}
 
 -- The summary of a block: what its entry says, and its lowest and its highest number.

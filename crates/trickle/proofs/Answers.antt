@@ -5,6 +5,7 @@ use mathlib.Core.Path.{_≡_, refl, sym, ap, _∙_}
 use Prim.Native.Nat.{ℕ, _≤_, _<_}
 use lib.ListN.{length}
 use borrow.Author.Tests.{le-leb, lt-leb, eq-eqb, ne-eqb}
+use Rattle.lists.proofs.Answers as every
 use Rattle.places.proofs.Answers.{number-apart}
 use Rattle.trickle.specs.declared.State.{State}
 use Rattle.trickle.specs.declared.TrickleAnswer.{TrickleAnswer}
@@ -37,7 +38,7 @@ module _ (s : State) (output : List ℕ) where
 
 -- After every refusal, that is after every number but 0, a lent buffer holds what it held.
 pub left-refused : {A : Type 0} (a : TrickleAnswer) (new old : A) → (numberOf a ≡ 0 → ⊥) → left a new old ≡ old
-left-refused a new old h = simp (ne-eqb (numberOf a) 0 h)
+left-refused = every.left-refused numberOf
 
 -- Done is the answer with number 0.
 pub number-done : (a : TrickleAnswer) → numberOf a ≡ 0 → a ≡ Done

@@ -7,8 +7,8 @@ use native.Mathlib.Nat.{add-zero}
 use native.Mathlib.Omega.{arith}
 use lib.ListN.{length, take, length-append}
 use lib.Seq.{length-take-le, take-all}
-use Rattle.places.specs.Tab.{over}
-use Rattle.places.proofs.Overs.{length-over, over-nothing, over-append}
+use Rattle.lists.specs.Tab.{over}
+use Rattle.lists.proofs.Overs.{length-over, over-nothing, over-append}
 use Rattle.trickle.specs.declared.State.{State}
 use Rattle.trickle.specs.Trickle.{bodySize, widthOf, countOf, heldOf, countsAs, takenOf, stateAfter, fedAll, bytesOfAll}
 use Rattle.trickle.proofs.Fronts.{front-min, front-both, front-over, before-over}

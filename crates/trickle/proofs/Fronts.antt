@@ -8,8 +8,8 @@ use native.Mathlib.Decide.{decLe}
 use native.Mathlib.Omega.{arith}
 use lib.ListN.{length, getD, take, drop, length-append, length-take}
 use lib.Seq.{getD-take, length-take-le, take-all, take-at, take-append-le, take-append-add}
-use Rattle.places.specs.Tab.{tab, over}
-use Rattle.places.proofs.Tabs.{is-tab}
+use Rattle.lists.specs.Tab.{tab, over}
+use Rattle.lists.proofs.Tabs.{is-tab}
 
 -- a front of a list is a list by its rule
 pub take-tab : (l : List ℕ) (n : ℕ) → n ≤ length l → take n l ≡ tab n (λ i. getD l i 0)

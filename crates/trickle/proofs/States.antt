@@ -9,8 +9,8 @@ use native.Mathlib.Omega.{arith}
 use lib.ListN.{length, length-replicate}
 use lib.Seq.{length-take-le}
 use borrow.Author.Tests.{leb-true, le-leb, lt-leb}
-use Rattle.places.specs.Pick.{pick}
-use Rattle.places.proofs.Tests.{both-true}
+use Rattle.lists.specs.Pick.{pick}
+use Rattle.lists.proofs.Tests.{both-true}
 use Rattle.trickle.specs.declared.State.{State}
 use Rattle.trickle.specs.Answers.{trickleAnswer}
 use Rattle.trickle.specs.Trickle.{bodySize, canBe, startedOf, countsAs, widthOf, countOf, heldOf}

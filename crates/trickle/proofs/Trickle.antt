@@ -13,9 +13,9 @@ use native.Mathlib.Omega.{arith}
 use lib.ListN.{length, take, length-replicate}
 use lib.Seq.{length-take-le, take-all}
 use borrow.Author.Tests.{lt-leb}
+use Rattle.lists.specs.Tab.{over}
 use Rattle.places.specs.Answers.{numberOf as numberIn, left as leftIn}
 use Rattle.places.specs.Sizes.{t64, lanes}
-use Rattle.places.specs.Tab.{over}
 use Rattle.places.specs.Takes.{answerFor}
 use Rattle.places.proofs.Answers.{number-apart}
 use Rattle.packing.specs.Calls.{packTakes, unpackLeaves}

@@ -5,8 +5,8 @@ use mathlib.Core.Bool.{Bool}
 use mathlib.Core.List.{List}
 use Prim.Native.Nat.{ℕ}
 use lib.Dec.{eqb}
-use Rattle.places.specs.Answers.{Test, firstRefusal}
-use Rattle.places.specs.Pick.{pick}
+use Rattle.lists.specs.Tests.{Test, firstRefusal}
+use Rattle.lists.specs.Pick.{pick}
 use Rattle.trickle.specs.declared.TrickleAnswer.{TrickleAnswer}
 use Rattle.trickle.specs.declared.TrickleAnswer.the-variants.{Done, Width, Block, Early}
 

@@ -6,11 +6,10 @@ use mathlib.Core.Path.{_≡_}
 use Prim.Native.Nat.{ℕ, _+_, _-_, _*_, min}
 use lib.Dec.{leb}
 use lib.ListN.{length, take, replicate}
-use Rattle.places.specs.Answers.{Test}
-use Rattle.places.specs.Pick.{pick, both}
+use Rattle.lists.specs.Tests.{Test, long}
+use Rattle.lists.specs.Pick.{pick, both}
+use Rattle.lists.specs.Tab.{over}
 use Rattle.places.specs.Sizes.{t64, lanes}
-use Rattle.places.specs.Tab.{over}
-use Rattle.places.specs.Takes.{long}
 use Rattle.packing.specs.Packed.{unpackOf}
 use Rattle.little.specs.Little.{numbersOf}
 use Rattle.trickle.specs.declared.State.{State}

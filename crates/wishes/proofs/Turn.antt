@@ -8,7 +8,7 @@ use native.Mathlib.Omega.{arith}
 use lib.Dec.{leb}
 use lib.ListN.{length, take}
 use borrow.Author.Tests.{le-leb}
-use Rattle.places.specs.Pick.{pick}
+use Rattle.lists.specs.Pick.{pick}
 use Rattle.wishes.specs.declared.Side.{Side}
 use Rattle.wishes.specs.declared.Part.{Part}
 use Rattle.wishes.specs.declared.Wish.the-variants.{Read, Write, Done}

@@ -6,7 +6,7 @@ use mathlib.Core.List.{List, [], _++_}
 use Prim.Native.Nat.{ℕ, zero, suc}
 use lib.Dec.{leb}
 use lib.ListN.{length, take, drop}
-use Rattle.places.specs.Pick.{pick}
+use Rattle.lists.specs.Pick.{pick}
 use Rattle.wishes.specs.declared.Side.{Side}
 use Rattle.wishes.specs.declared.Side.the-variants.{Left, Right}
 use Rattle.wishes.specs.declared.Part.{Part}

@@ -6,8 +6,8 @@ use Prim.Native.Nat.{ℕ, _%_, _≤_, _<_}
 use borrow.Author.Tests.{eq-eqb, ne-eqb, le-leb, lt-leb}
 use lib.Dec.{leb}
 use lib.ListN.{length}
-use Rattle.places.specs.Pick.{pick, both}
-use Rattle.places.specs.Tab.{over}
+use Rattle.lists.specs.Pick.{pick, both}
+use Rattle.lists.specs.Tab.{over}
 use Rattle.contents.specs.declared.FileAnswer.{FileAnswer}
 use Rattle.contents.specs.declared.FileAnswer.the-variants.{Done, Block, Room}
 use Rattle.contents.specs.Answers.{fileAnswer, isDone, left}

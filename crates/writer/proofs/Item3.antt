@@ -10,14 +10,18 @@ use native.Mathlib.Decide.{decLe, ℕ-discrete}
 use native.Mathlib.Omega.{arith}
 use borrow.Author.Tests.{ne-eqb}
 use lib.ListN.{length, getD, take, drop}
-use Rattle.places.specs.Numbers.{minus, Elements}
-use Rattle.places.specs.Parts.{cut, joined}
+use Rattle.lists.specs.Numbers.{minus, Elements}
+use Rattle.lists.specs.Parts.{cut, joined}
+use Rattle.lists.specs.Pick.{pick}
+use Rattle.lists.specs.Tab.{tab, tabFrom, over}
+use Rattle.lists.specs.Search.{firstBad, firstFailing}
+use Rattle.lists.specs.Ends.{lowestOf, highestOf}
+use Rattle.lists.proofs.Overs.{over-front, over-rest}
+use Rattle.lists.proofs.Parts.{length-cut, cut-elements}
+use Rattle.lists.proofs.Highs.{highest-bound, highest-stands}
+use Rattle.lists.proofs.Lows.{lowest-bound, lowest-stands}
 use Rattle.places.specs.Places.{place, lane, row, order}
-use Rattle.places.specs.Pick.{pick}
 use Rattle.places.specs.Sizes.{t64, lanes}
-use Rattle.places.specs.Tab.{tab, tabFrom, over}
-use Rattle.places.proofs.Overs.{over-front, over-rest}
-use Rattle.places.proofs.Parts.{length-cut, cut-elements}
 use Rattle.little.specs.Little.{bytesOf, allBytes}
 use Rattle.contents.specs.declared.Entry.{Entry}
 use Rattle.contents.specs.declared.FileAnswer.{FileAnswer}
@@ -25,18 +29,13 @@ use Rattle.contents.specs.declared.FileAnswer.the-variants.{Done, Block, Beyond
 use Rattle.contents.specs.Answers.{fileAnswer, numberOf, isDone, left}
 use Rattle.contents.specs.Bytes.{headBytes, firstBytes, rangeBytes, entryBytes}
 use Rattle.contents.specs.Contents.{count, entryOf, rangeOf}
-use Rattle.contents.specs.First.{firstBad, firstFrom}
 use Rattle.contents.proofs.Answers.{left-refused, says-answer}
 use Rattle.bodies.specs.Bodies.{blockOf, wordsFrom}
-use Rattle.bodies.specs.Ranges.{lowestOf, trueRange}
+use Rattle.bodies.specs.Ranges.{trueRange}
 use Rattle.candidates.specs.Candidates.{plainAt, frameAt, stepsAt, shorter, chosen, bodyFor, baseOf}
 use Rattle.candidates.specs.Widths.{bits, widthOf}
 use Rattle.packing.specs.Packed.{packOf}
 use Rattle.deltas.specs.Deltas.{before, deltaOf, frameOf, forPackOf}
-use Rattle.runs.specs.Highest.{highestOf}
-use Rattle.runs.proofs.Highs.{highest-bound}
-use Rattle.bodies.proofs.Lows.{lowest-bound, lowest-stands}
-use Rattle.bodies.proofs.Ranges.{highest-stands}
 use Rattle.candidates.specs.Restored.{candidate}
 use Rattle.candidates.proofs.Choice.{chosen-shortest}
 use Rattle.candidates.proofs.Least.{no-narrower}
@@ -278,5 +277,5 @@ unfolding fileOf entriesFor bodiesFor headBytes bytesOf joined
 writes-none = refl
 
 pub writes-sevens : fileOf (tab 1024 (λ _. 7)) ≡ oneOfSevens
-unfolding fileOf entriesFor bodiesFor headBytes firstBytes rangeBytes entryBytes bytesOf allBytes joined cut tab tabFrom chosen bodyFor shorter plainAt frameAt stepsAt baseOf widthOf bits lowestOf highestOf firstBad firstFrom packOf forPackOf frameOf deltaOf before minus place lane row order
+unfolding fileOf entriesFor bodiesFor headBytes firstBytes rangeBytes entryBytes bytesOf allBytes joined cut tab tabFrom chosen bodyFor shorter plainAt frameAt stepsAt baseOf widthOf bits lowestOf highestOf firstBad firstFailing packOf forPackOf frameOf deltaOf before minus place lane row order
 writes-sevens = refl

@@ -9,10 +9,10 @@ use native.Mathlib.Omega.{arith}
 use lib.ListN.{length, take, drop, length-append, length-drop, drop-of-length-le}
 use lib.Seq.{take-all}
 use borrow.Rule.Slice.PartMut.{midOf, postOf, putMid}
-use Rattle.places.specs.Parts.{cut, joined}
-use Rattle.places.specs.Tab.{over}
-use Rattle.places.proofs.Overs.{length-over, over-append, over-apart, over-nothing, over-tail}
-use Rattle.places.proofs.Parts.{length-joined, length-cut}
+use Rattle.lists.specs.Parts.{cut, joined}
+use Rattle.lists.specs.Tab.{over}
+use Rattle.lists.proofs.Overs.{length-over, over-append, over-apart, over-nothing, over-tail}
+use Rattle.lists.proofs.Parts.{length-joined, length-cut}
 use Rattle.contents.specs.Bytes.{headBytes, entryBytes, entryLeaves}
 use Rattle.contents.specs.Contents.{entrySize, contentsSize}
 use Rattle.contents.proofs.Bytes.{length-head, length-entry, entry-fits}

@@ -10,28 +10,28 @@ use native.Mathlib.Omega.{arith}
 use lib.ListN.{length, getD, take, drop, length-append}
 use lib.Seq.{take-at, drop-at}
 use borrow.Author.Tests.{eq-eqb, le-leb}
-use Rattle.places.specs.Numbers.{Elements}
-use Rattle.places.specs.Pick.{pick, both}
+use Rattle.lists.specs.Numbers.{Elements}
+use Rattle.lists.specs.Pick.{pick, both}
+use Rattle.lists.specs.Tab.{tab}
+use Rattle.lists.specs.Search.{firstBad}
+use Rattle.lists.specs.Ends.{highestOf, lowestOf}
+use Rattle.lists.proofs.Parts.{length-cut, getD-cut, cut-elements, joined-at}
+use Rattle.lists.proofs.Tabs.{is-tab}
+use Rattle.lists.proofs.Search.{first-only}
+use Rattle.lists.proofs.Highs.{highest-below}
+use Rattle.lists.proofs.Lows.{lowest-element}
 use Rattle.places.specs.Sizes.{t64}
-use Rattle.places.specs.Tab.{tab}
-use Rattle.places.proofs.Parts.{length-cut, getD-cut, cut-elements, joined-at}
-use Rattle.places.proofs.Tabs.{is-tab}
 use Rattle.contents.specs.declared.FileAnswer.the-variants.{Done}
 use Rattle.contents.specs.Answers.{fileAnswer}
 use Rattle.contents.specs.Bytes.{headBytes}
 use Rattle.contents.specs.Contents.{edition, count, contentsSize, entryAt, entryOf, rangeAt, anyRange, rangeOf, isLaidOut, isTakenIn, isOrdered, isRight, bodiesSize, bodyStart, contentsTests}
-use Rattle.contents.specs.First.{firstBad}
 use Rattle.contents.proofs.Accepted.{Whole, accepts, done-both}
 use Rattle.contents.proofs.Answers.{passed, none-left}
 use Rattle.contents.proofs.Bytes.{RangeFits, head-edition, head-count, entry-back, range-back}
-use Rattle.contents.proofs.First.{first-only}
 use Rattle.contents.proofs.Laid.{taken-plain}
 use Rattle.contents.proofs.Sizes.{size-least}
-use Rattle.runs.specs.Highest.{highestOf}
-use Rattle.runs.proofs.Highs.{highest-below}
 use Rattle.bodies.specs.Bodies.{blockOf, hasGoodRuns}
-use Rattle.bodies.specs.Ranges.{lowestOf, trueRange, isRange}
-use Rattle.bodies.proofs.Lows.{lowest-element}
+use Rattle.bodies.specs.Ranges.{trueRange, isRange}
 use Rattle.candidates.specs.Candidates.{chosen, bodyFor}
 use Rattle.candidates.proofs.Calls.{lowest-highest}
 use Rattle.candidates.proofs.Choice.{body-sized, chosen-kind, chosen-laid, chosen-fits, chosen-runs}

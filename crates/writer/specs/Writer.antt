@@ -4,9 +4,9 @@ use mathlib.Core.List.{List, [], _∷_, _++_}
 use Prim.Native.Nat.{ℕ, _/_, _%_}
 use lib.Dec.{eqb, leb}
 use lib.ListN.{length}
-use Rattle.places.specs.Parts.{cut, joined}
-use Rattle.places.specs.Pick.{pick, both}
-use Rattle.places.specs.Tab.{over}
+use Rattle.lists.specs.Parts.{cut, joined}
+use Rattle.lists.specs.Pick.{pick, both}
+use Rattle.lists.specs.Tab.{over}
 use Rattle.contents.specs.declared.FileAnswer.{FileAnswer}
 use Rattle.contents.specs.declared.FileAnswer.the-variants.{Done, Block, Room}
 use Rattle.contents.specs.Answers.{FileTest, fileAnswer, isDone, left}

@@ -10,7 +10,7 @@ ghost use mathlib.Core.Path.{_≡_};
 ghost use mathlib.Core.List.{_++_};
 ghost use Prim.Native.Nat.{_+_, _*_, _≤_, _<_};
 ghost use lib.ListN.{length};
-ghost use Rattle.places.specs.Tab.{over};
+ghost use Rattle.lists.specs.Tab.{over};
 ghost use Rattle.candidates.specs.Candidates.{chosen, bodyFor};
 ghost use Rattle.contents.specs.Bytes.{entryBytes};
 ghost use Rattle.contents.specs.Contents.{contentsSize};

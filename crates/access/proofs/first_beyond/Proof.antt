@@ -4,7 +4,7 @@ use Prim.Native.Nat.{ℕ, _-_, _≤_, _<_}
 use native.Mathlib.Omega.{arith}
 use lib.ListN.{length, getD}
 use borrow.Author.Count.{below-none, below-more}
-use Rattle.places.proofs.Search.{first-beyond-only}
+use Rattle.lists.proofs.Search.{first-beyond-only}
 use Rattle.access.proofs.first_beyond.Statement.{statement}
 use Rattle.access.proofs.first_beyond.Tie as tie
 

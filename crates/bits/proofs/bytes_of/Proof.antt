@@ -4,7 +4,7 @@ use mathlib.Core.Path.{_≡_, refl}
 use Prim.Native.Nat.{_-_, _*_, _≤_}
 use native.Mathlib.Omega.{arith}
 use lib.ListN.{length}
-use Rattle.places.proofs.Tabs.{Written, written-none, written-length, written-all}
+use Rattle.lists.proofs.Tabs.{Written, written-none, written-length, written-all}
 use Rattle.bits.specs.InnerSteps.{byteAt, bytesOf}
 use Rattle.bits.proofs.Gathers.{word-more}
 use Rattle.bits.proofs.bytes_of.Statement.{statement}

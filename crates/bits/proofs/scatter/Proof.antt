@@ -5,8 +5,8 @@ use Prim.Native.Nat.{_-_, _≤_}
 use native.Mathlib.Omega.{arith}
 use lib.ListN.{length}
 use borrow.Author.Needs.{needs}
-use Rattle.places.specs.Tab.{tab}
-use Rattle.places.proofs.Tabs.{Written, written-none, written-next, written-all}
+use Rattle.lists.specs.Tab.{tab}
+use Rattle.lists.proofs.Tabs.{Written, written-none, written-next, written-all}
 use Rattle.bits.specs.InnerSteps.{gatherOf, gathersOf, scatterStart}
 use Rattle.bits.proofs.scatter.Statement.{statement}
 use Rattle.bits.proofs.scatter.Tie as tie

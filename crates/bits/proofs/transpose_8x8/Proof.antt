@@ -3,8 +3,8 @@
 -- Assumes nothing.
 use mathlib.Core.Path.{ap, _∙_}
 use native.Mathlib.Omega.{arith}
-use Rattle.places.specs.Numbers.{digit}
-use Rattle.places.proofs.Every.{below}
+use Rattle.lists.specs.Numbers.{digit}
+use Rattle.lists.proofs.Every.{below}
 use Rattle.bits.specs.InnerSteps.{crossed, exchangeOf}
 use Rattle.bits.proofs.Exchanges.{exchanges-turn}
 use Rattle.bits.proofs.transpose_8x8.Statement.{statement}

@@ -5,9 +5,9 @@ use Prim.Native.Nat.{_+_, _-_, _*_, _/_, _≤_, _<_}
 use native.Mathlib.Omega.{arith}
 use lib.ListN.{length}
 use borrow.Author.Needs.{needs}
-use Rattle.places.specs.Tab.{tab}
+use Rattle.lists.specs.Tab.{tab}
+use Rattle.lists.proofs.Tabs.{Written, written-none, written-next, written-all}
 use Rattle.places.proofs.Places.{order-lt}
-use Rattle.places.proofs.Tabs.{Written, written-none, written-next, written-all}
 use Rattle.bits.specs.InnerSteps.{gatherOf, turnOf, turnsOf, unscatterStart}
 use Rattle.bits.proofs.unscatter.Statement.{statement}
 use Rattle.bits.proofs.unscatter.Tie as tie

@@ -4,8 +4,8 @@ use mathlib.Core.Path.{_≡_, refl, ap}
 use Prim.Native.Nat.{_-_, _/_, _%_, _^_, _≤_}
 use native.Mathlib.Nat.{mul-comm}
 use native.Mathlib.Omega.{arith}
-use Rattle.places.specs.Numbers.{digit}
-use Rattle.places.proofs.Tabs.{Written, written-none, written-next, written-length}
+use Rattle.lists.specs.Numbers.{digit}
+use Rattle.lists.proofs.Tabs.{Written, written-none, written-next, written-length}
 use Rattle.bits.specs.InnerSteps.{byteOf}
 use Rattle.bits.proofs.write_word.Statement.{statement}
 use Rattle.bits.proofs.write_word.Tie as tie

@@ -5,7 +5,7 @@ use native.Mathlib.Omega.{arith}
 use denote.Ref.{now}
 use lib.ListN.{replicate}
 use borrow.Author.Needs.{needs}
-use Rattle.runs.specs.Highest.{highestOf}
+use Rattle.lists.specs.Ends.{highestOf}
 use Rattle.bodies.proofs.Bodies.{numbers-read}
 use Rattle.bodies.proofs.highest_index.Statement.{statement}
 use Rattle.bodies.proofs.highest_index.Tie as tie

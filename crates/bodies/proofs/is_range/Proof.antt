@@ -3,7 +3,7 @@
 use mathlib.Core.Path.{ap₂}
 use lib.Dec.{eqb}
 use borrow.Author.Needs.{needs}
-use Rattle.places.specs.Pick.{both}
+use Rattle.lists.specs.Pick.{both}
 use Rattle.bodies.proofs.is_range.Statement.{statement}
 use Rattle.bodies.proofs.is_range.Tie as tie
 

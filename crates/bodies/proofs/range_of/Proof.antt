@@ -4,8 +4,8 @@ use mathlib.Core.Logic.{⊎-elim}
 use Prim.Native.Nat.{_-_}
 use native.Mathlib.Omega.{arith}
 use lib.ListN.{length}
-use Rattle.runs.proofs.Highs.{Passed as Highs, passed-none as highs-none, passed-next as highs-next, passed-all as highs-all}
-use Rattle.bodies.proofs.Lows.{Passed as Lows, passed-none as lows-none, passed-next as lows-next, passed-all as lows-all}
+use Rattle.lists.proofs.Highs.{Passed as Highs, passed-none as highs-none, passed-next as highs-next, passed-all as highs-all}
+use Rattle.lists.proofs.Lows.{Passed as Lows, passed-none as lows-none, passed-next as lows-next, passed-all as lows-all}
 use Rattle.bodies.proofs.range_of.Statement.{statement}
 use Rattle.bodies.proofs.range_of.Tie as tie
 

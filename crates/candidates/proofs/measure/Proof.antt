@@ -5,7 +5,7 @@ use native.Mathlib.Omega.{arith}
 use denote.Ref.{now}
 use lib.Seq.{length-take-le}
 use borrow.Author.Needs.{needs}
-use Rattle.places.specs.Numbers.{Elements}
+use Rattle.lists.specs.Numbers.{Elements}
 use Rattle.places.specs.Sizes.{t64}
 use Rattle.candidates.specs.Widths.{widthOf}
 use Rattle.candidates.proofs.Calls.{lowest-highest, differences-left, measured}

@@ -6,10 +6,10 @@ use denote.Ref.{now}
 use lib.ListN.{length, take, replicate}
 use borrow.Author.Needs.{needs}
 use borrow.Author.Tests.{not-true, not-false}
-use Rattle.places.specs.Numbers.{Elements}
-use Rattle.places.specs.Pick.{both}
-use Rattle.places.specs.Tab.{over}
-use Rattle.places.proofs.Overs.{over-front}
+use Rattle.lists.specs.Numbers.{Elements}
+use Rattle.lists.specs.Pick.{both}
+use Rattle.lists.specs.Tab.{over}
+use Rattle.lists.proofs.Overs.{over-front}
 use Rattle.contents.specs.Contents.{entryOf}
 use Rattle.bodies.specs.Ranges.{trueRange}
 use Rattle.candidates.specs.declared.Laid.the-variants.{As}

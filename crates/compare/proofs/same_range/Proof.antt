@@ -4,7 +4,7 @@ use mathlib.Core.Path.{ap₂, _∙_}
 use denote.Ref.{now}
 use lib.Dec.{eqb}
 use borrow.Author.Needs.{needs}
-use Rattle.places.specs.Pick.{both}
+use Rattle.lists.specs.Pick.{both}
 use Rattle.contents.specs.Contents.{editionOr}
 use Rattle.compare.specs.Ranges.{sameRange}
 use Rattle.compare.proofs.same_range.Statement.{statement}

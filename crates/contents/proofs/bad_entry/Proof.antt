@@ -7,8 +7,8 @@ use native.Mathlib.Omega.{arith}
 use borrow.Author.Count.{below-none, below-more}
 use borrow.Author.Needs.{needs}
 use borrow.Author.Tests.{not-true, not-false}
+use Rattle.lists.proofs.Search.{first-only}
 use Rattle.contents.specs.Contents.{contentsSize, isRight}
-use Rattle.contents.proofs.First.{first-only}
 use Rattle.contents.proofs.Sizes.{size-none, size-next, size-before}
 use Rattle.contents.proofs.bad_entry.Statement.{statement}
 use Rattle.contents.proofs.bad_entry.Tie as tie

@@ -5,11 +5,11 @@ use Prim.Native.Nat.{_+_, _*_, _≤_, _<_}
 use native.Mathlib.Omega.{arith}
 use denote.Ref.{now}
 use borrow.Author.Needs.{needs}
+use Rattle.lists.specs.Search.{firstBad}
+use Rattle.lists.proofs.Search.{first-le}
 use Rattle.contents.specs.declared.FileAnswer.the-variants.{BadEntry}
 use Rattle.contents.specs.Contents.{edition, count, contentsSize, isRight, badEntry, bodiesSize, bodyStart}
-use Rattle.contents.specs.First.{firstBad}
 use Rattle.contents.proofs.Checks.{bad-entries, short-bodies, left-over, entries-done}
-use Rattle.contents.proofs.First.{first-le}
 use Rattle.contents.proofs.Sizes.{size-most}
 use Rattle.contents.proofs.check_entries.Statement.{statement}
 use Rattle.contents.proofs.check_entries.Tie as tie

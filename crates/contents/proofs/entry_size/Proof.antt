@@ -2,7 +2,7 @@
 -- Assumes nothing.
 use mathlib.Core.Path.{sym, ap}
 use borrow.Author.Tests.{eq-eqb, ne-eqb}
-use Rattle.places.specs.Pick.{pick}
+use Rattle.lists.specs.Pick.{pick}
 use Rattle.contents.specs.Contents.{entrySize}
 use Rattle.contents.proofs.entry_size.Statement.{statement}
 use Rattle.contents.proofs.entry_size.Tie as tie

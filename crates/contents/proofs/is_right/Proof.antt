@@ -6,7 +6,7 @@ use native.Mathlib.Omega.{arith}
 use lib.Dec.{ltb}
 use denote.Ref.{now}
 use borrow.Author.Needs.{needs}
-use Rattle.places.specs.Pick.{both}
+use Rattle.lists.specs.Pick.{both}
 use Rattle.contents.specs.Contents.{edition, contentsSize, entryAt, entryOf, rangeAt, isLaidOut, isOrdered}
 use Rattle.contents.proofs.Entries.{right-second, right-other}
 use Rattle.contents.proofs.Sizes.{size-entry, size-range}

@@ -5,7 +5,7 @@ use native.Mathlib.Omega.{arith}
 use lib.ListN.{length, getD}
 use borrow.Author.Count.{below-more}
 use borrow.Author.Needs.{needs}
-use Rattle.places.proofs.Search.{first-beyond-only}
+use Rattle.lists.proofs.Search.{first-beyond-only}
 use Rattle.decimal.specs.Decimal.{digitsOf}
 use Rattle.decimal.proofs.Texts.{digits-length, digit-at}
 use Rattle.decimal.proofs.first_other.Statement.{statement}

@@ -6,7 +6,7 @@ use native.Mathlib.Omega.{arith}
 use lib.ListN.{length}
 use borrow.Author.Needs.{needs}
 use borrow.Author.Tests.{eq-eqb, ne-eqb, lt-ltb, le-ltb}
-use Rattle.places.specs.Search.{firstBeyond}
+use Rattle.lists.specs.Search.{firstBeyond}
 use Rattle.decimal.specs.declared.Parsed.the-variants.{Other}
 use Rattle.decimal.specs.Decimal.{digitsOf}
 use Rattle.decimal.proofs.Texts.{digits-length}

@@ -6,7 +6,7 @@ use Prim.Native.Nat.{_+_, _/_, _≤_}
 use native.Mathlib.Omega.{arith}
 use lib.ListN.{length, length-set}
 use borrow.Author.Needs.{needs}
-use Rattle.places.specs.Tab.{over}
+use Rattle.lists.specs.Tab.{over}
 use Rattle.decimal.specs.Decimal.{textOf}
 use Rattle.decimal.proofs.Texts.{text-one, text-more, long-more, long-some, long-few, long-many, laid-last, laid-first}
 use Rattle.decimal.proofs.put_digits.Statement.{statement}

@@ -8,10 +8,10 @@ use denote.Ref.{now}
 use lib.ListN.{length}
 use borrow.Author.Needs.{needs}
 use borrow.Author.Tests.{not-true, not-false}
+use Rattle.lists.proofs.Search.{first-only}
 use Rattle.contents.specs.declared.FileAnswer.the-variants.{Done}
 use Rattle.contents.specs.Answers.{fileAnswer}
 use Rattle.contents.specs.Contents.{count, contentsTests}
-use Rattle.contents.proofs.First.{first-only}
 use Rattle.files.specs.Files.{hasTrueRange, badRange}
 use Rattle.bodywise.proofs.Told.{count-read}
 use Rattle.bodywise.proofs.Walking.{Walking, file-first, file-none, file-number, file-next, file-passed}

@@ -9,9 +9,9 @@ use denote.Ref.{now}
 use lib.Dec.{eqb}
 use borrow.Author.Needs.{needs}
 use borrow.Author.Tests.{eq-eqb, ne-eqb, not-true, not-false}
-use Rattle.places.specs.Pick.{either}
+use Rattle.lists.specs.Pick.{either}
+use Rattle.lists.proofs.Search.{first-only}
 use Rattle.contents.specs.Contents.{count}
-use Rattle.contents.proofs.First.{first-only}
 use Rattle.bodywise.proofs.Told.{count-read}
 use Rattle.bodywise.proofs.Walking.{Walking, file-first, file-none, file-number, file-next, file-passed}
 use Rattle.files.proofs.Files.{goodIn}

@@ -6,7 +6,7 @@ use native.Mathlib.Omega.{arith}
 use denote.Ref.{now}
 use lib.ListN.{length}
 use borrow.Author.Needs.{needs}
-use Rattle.places.specs.Numbers.{plus}
+use Rattle.lists.specs.Numbers.{plus}
 use Rattle.places.specs.Sizes.{t64}
 use Rattle.packing.specs.Packed.{valueAt}
 use Rattle.access.specs.Counts.{countAt}

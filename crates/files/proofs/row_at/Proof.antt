@@ -8,7 +8,7 @@ use denote.Ref.{now}
 use lib.ListN.{length, replicate}
 use borrow.Author.Needs.{needs}
 use borrow.Author.Tests.{lt-ltb, le-ltb}
-use Rattle.places.specs.Pick.{pick}
+use Rattle.lists.specs.Pick.{pick}
 use Rattle.places.specs.Sizes.{t64}
 use Rattle.access.specs.Counts.{countAt}
 use Rattle.contents.specs.declared.FileAnswer.the-variants.{Done, Beyond, Runs}

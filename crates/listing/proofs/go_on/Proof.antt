@@ -5,7 +5,7 @@ use denote.Ref.{now}
 use native.Mathlib.Omega.{arith}
 use Prim.Native.Nat.{_*_}
 use lib.ListN.{length}
-use Rattle.places.specs.Tab.{over}
+use Rattle.lists.specs.Tab.{over}
 use Rattle.wishes.specs.declared.Wish.the-variants.{Write}
 use Rattle.listing.specs.declared.Stage.the-variants.{End}
 use Rattle.listing.specs.Text.{lastLines}

@@ -6,7 +6,7 @@ use Prim.Native.Nat.{_+_, _-_, _*_, _≤_}
 use native.Mathlib.Omega.{arith}
 use denote.Ref.{now}
 use lib.ListN.{length}
-use Rattle.places.specs.Tab.{over}
+use Rattle.lists.specs.Tab.{over}
 use Rattle.compare.specs.Changes.{differing, changesIn}
 use Rattle.listing.specs.Text.{linesOf}
 use Rattle.listing.proofs.Lines.{LaidTo, laid-none, laid-keeps, change-most}

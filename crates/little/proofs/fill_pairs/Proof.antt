@@ -6,7 +6,7 @@ use native.Mathlib.Nat.{zero-add}
 use native.Mathlib.Omega.{arith}
 use lib.ListN.{length}
 use borrow.Author.Needs.{needs}
-use Rattle.places.proofs.Tabs.{Written, written-none, written-next, written-length, written-all}
+use Rattle.lists.proofs.Tabs.{Written, written-none, written-next, written-length, written-all}
 use Rattle.little.specs.Little.{little, numbersOf}
 use Rattle.little.proofs.fill_pairs.Statement.{statement}
 use Rattle.little.proofs.fill_pairs.Tie as tie

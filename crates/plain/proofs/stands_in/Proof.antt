@@ -5,7 +5,7 @@ use native.Mathlib.Omega.{arith}
 use borrow.Author.Needs.{needs}
 use lib.Dec.{leb, ltb}
 use Prim.Native.Nat.{_+_}
-use Rattle.places.specs.Pick.{both}
+use Rattle.lists.specs.Pick.{both}
 use Rattle.places.specs.Sizes.{lanes}
 use Rattle.places.proofs.Places.{size-some}
 use Rattle.plain.proofs.Words.{lanes-most, row-most, and-both}

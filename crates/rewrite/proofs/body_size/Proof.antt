@@ -4,7 +4,7 @@ use mathlib.Core.Path.{ap, _∙_}
 use native.Mathlib.Omega.{arith}
 use denote.Ref.{now}
 use borrow.Author.Needs.{needs}
-use Rattle.places.specs.Numbers.{Elements}
+use Rattle.lists.specs.Numbers.{Elements}
 use Rattle.files.specs.Files.{blockIn}
 use Rattle.candidates.specs.Calls.{entryFor}
 use Rattle.candidates.proofs.Calls.{entry-there}

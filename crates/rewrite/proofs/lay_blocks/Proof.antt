@@ -8,8 +8,8 @@ use native.Mathlib.Omega.{arith}
 use denote.Ref.{now}
 use lib.ListN.{length}
 use borrow.Author.Needs.{needs}
-use Rattle.places.specs.Numbers.{Elements}
-use Rattle.places.specs.Tab.{over}
+use Rattle.lists.specs.Numbers.{Elements}
+use Rattle.lists.specs.Tab.{over}
 use Rattle.contents.specs.Contents.{count, entrySize, contentsSize}
 use Rattle.candidates.specs.Candidates.{bodyFor}
 use Rattle.files.specs.Files.{blockIn, rowsOf}

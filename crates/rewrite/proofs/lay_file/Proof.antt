@@ -5,7 +5,7 @@ use mathlib.Core.Path.{_≡_, sym, ap, _∙_}
 use native.Mathlib.Omega.{arith}
 use denote.Ref.{now}
 use borrow.Author.Needs.{needs}
-use Rattle.places.specs.Tab.{over}
+use Rattle.lists.specs.Tab.{over}
 use Rattle.contents.specs.Bytes.{headBytes, headLeaves}
 use Rattle.contents.specs.Contents.{count, entrySize, contentsSize}
 use Rattle.contents.proofs.Bytes.{head-fits}

@@ -6,7 +6,7 @@ use native.Mathlib.Omega.{arith}
 use denote.Ref.{now}
 use lib.ListN.{length}
 use borrow.Author.Needs.{needs}
-use Rattle.places.specs.Numbers.{Elements}
+use Rattle.lists.specs.Numbers.{Elements}
 use Rattle.contents.specs.Contents.{count, entrySize, contentsSize}
 use Rattle.files.specs.Files.{rowsOf}
 use Rattle.bodywise.proofs.Told.{count-read}

@@ -4,7 +4,7 @@ use Prim.Native.Nat.{_-_}
 use native.Mathlib.Omega.{arith}
 use mathlib.Core.Logic.{⊎-elim}
 use lib.ListN.{length}
-use Rattle.runs.proofs.Highs.{Passed, passed-none, passed-next, passed-all}
+use Rattle.lists.proofs.Highs.{Passed, passed-none, passed-next, passed-all}
 use Rattle.runs.proofs.highest.Statement.{statement}
 use Rattle.runs.proofs.highest.Tie as tie
 

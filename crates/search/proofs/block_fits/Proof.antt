@@ -7,8 +7,8 @@ use lib.Dec.{leb}
 use lib.ListN.{length}
 use borrow.Author.Needs.{needs}
 use borrow.Author.Tests.{le-leb}
+use Rattle.lists.proofs.Passing.{passing-length}
 use Rattle.search.specs.Steps.{inBlock, foundIn}
-use Rattle.search.proofs.Passing.{passing-length}
 use Rattle.search.proofs.block_fits.Statement.{statement}
 use Rattle.search.proofs.block_fits.Tie as tie
 

@@ -6,7 +6,7 @@ use mathlib.Core.Path.{_≡_, sym, _∙_}
 use native.Mathlib.Omega.{arith}
 use denote.Ref.{now}
 use borrow.Author.Needs.{needs}
-use Rattle.places.proofs.Tests.{false-true}
+use Rattle.lists.proofs.Tests.{false-true}
 use Rattle.contents.specs.Contents.{edition, count}
 use Rattle.bodywise.proofs.Told.{whole, count-read, edition-read}
 use Rattle.search.specs.InnerBlocks.{badIn}

@@ -7,11 +7,11 @@ use native.Mathlib.Omega.{arith}
 use denote.Ref.{now}
 use lib.ListN.{length}
 use borrow.Author.Needs.{needs}
+use Rattle.lists.specs.Passing.{passing}
+use Rattle.lists.proofs.Passing.{passing-none-yet, passing-length}
 use Rattle.search.specs.Steps.{inBlock}
-use Rattle.search.specs.Passing.{passing}
 use Rattle.search.proofs.Blocks.{in-block}
 use Rattle.search.proofs.Listing.{more-pass, same-pass}
-use Rattle.search.proofs.Passing.{passing-none-yet, passing-length}
 use Rattle.search.proofs.count_block.Statement.{statement}
 use Rattle.search.proofs.count_block.Tie as tie
 

@@ -8,12 +8,12 @@ use native.Mathlib.Omega.{arith}
 use denote.Ref.{now}
 use lib.ListN.{length}
 use borrow.Author.Needs.{needs}
+use Rattle.lists.specs.Passing.{passing}
+use Rattle.lists.proofs.Passing.{passing-none-yet, passing-length}
 use Rattle.contents.specs.Contents.{count}
 use Rattle.bodywise.proofs.Told.{count-read}
-use Rattle.search.specs.Passing.{passing}
 use Rattle.search.specs.Search.{opens, opened}
 use Rattle.search.proofs.Listing.{more-pass, same-pass}
-use Rattle.search.proofs.Passing.{passing-none-yet, passing-length}
 use Rattle.search.proofs.Walks.{file-opens}
 use Rattle.search.proofs.count_opened.Statement.{statement}
 use Rattle.search.proofs.count_opened.Tie as tie

@@ -8,10 +8,10 @@ use native.Mathlib.Omega.{arith}
 use denote.Ref.{now}
 use lib.ListN.{length}
 use borrow.Author.Needs.{needs}
+use Rattle.lists.proofs.Passing.{passing-none-yet, passing-length}
 use Rattle.contents.specs.Contents.{count}
 use Rattle.bodywise.proofs.Told.{whole, count-read}
 use Rattle.bodywise.proofs.Walking.{Walking, file-first, file-zero, file-number, file-next}
-use Rattle.search.proofs.Passing.{passing-none-yet, passing-length}
 use Rattle.search.specs.Search.{opens, listed}
 use Rattle.search.proofs.Walks.{foundTo, file-opens, opened-asked, found-length, found-shut, found-all}
 use Rattle.search.proofs.count_rows.Statement.{statement}

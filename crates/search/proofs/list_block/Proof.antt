@@ -8,9 +8,9 @@ use native.Mathlib.Omega.{arith}
 use denote.Ref.{now}
 use lib.ListN.{length}
 use borrow.Author.Needs.{needs}
-use Rattle.places.specs.Tab.{over}
+use Rattle.lists.specs.Tab.{over}
+use Rattle.lists.specs.Passing.{passing}
 use Rattle.search.specs.Steps.{inBlock}
-use Rattle.search.specs.Passing.{passing}
 use Rattle.search.proofs.Blocks.{in-block}
 use Rattle.search.proofs.Listing.{Listing, listing-none, listing-is, listing-same, listing-more, listing-count, listing-run, listing-length, more-pass, pass-mono}
 use Rattle.search.proofs.list_block.Statement.{statement}

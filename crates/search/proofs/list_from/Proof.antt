@@ -6,7 +6,7 @@ use native.Mathlib.Omega.{arith}
 use denote.Ref.{now}
 use lib.ListN.{length, replicate}
 use borrow.Author.Needs.{needs}
-use Rattle.places.specs.Tab.{over}
+use Rattle.lists.specs.Tab.{over}
 use Rattle.files.specs.Files.{blockIn}
 use Rattle.bodywise.proofs.Told.{whole}
 use Rattle.files.proofs.Froms.{from-block}

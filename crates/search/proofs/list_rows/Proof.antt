@@ -8,13 +8,13 @@ use native.Mathlib.Omega.{arith}
 use denote.Ref.{now}
 use lib.ListN.{length}
 use borrow.Author.Needs.{needs}
-use Rattle.places.specs.Tab.{over}
-use Rattle.places.proofs.Overs.{length-over, over-nothing}
+use Rattle.lists.specs.Tab.{over}
+use Rattle.lists.proofs.Overs.{length-over, over-nothing}
+use Rattle.lists.proofs.Passing.{passing-none-yet}
 use Rattle.contents.specs.Contents.{count}
 use Rattle.bodywise.proofs.Told.{count-read}
 use Rattle.bodywise.proofs.Walking.{Walking, file-first, file-zero, file-number, file-next}
 use Rattle.search.specs.Search.{opens, listed}
-use Rattle.search.proofs.Passing.{passing-none-yet}
 use Rattle.search.proofs.Walks.{foundTo, file-opens, opened-asked, found-length, found-shut, found-within, found-all, listed-more}
 use Rattle.search.proofs.list_rows.Statement.{statement}
 use Rattle.search.proofs.list_rows.Tie as tie

@@ -8,9 +8,9 @@ use native.Mathlib.Omega.{arith}
 use denote.Ref.{now}
 use borrow.Author.Needs.{needs}
 use borrow.Author.Tests.{not-true, not-false}
-use Rattle.places.specs.Pick.{pick}
+use Rattle.lists.specs.Pick.{pick}
+use Rattle.lists.proofs.Search.{first-only}
 use Rattle.contents.specs.Contents.{count}
-use Rattle.contents.proofs.First.{first-only}
 use Rattle.bodywise.proofs.Told.{count-read}
 use Rattle.bodywise.proofs.Walking.{Walking, file-first, file-none, file-number, file-next, file-passed}
 use Rattle.search.specs.InnerBlocks.{asked}

@@ -4,7 +4,7 @@ use mathlib.Core.Path.{sym, ap, _∙_}
 use denote.Ref.{now}
 use borrow.Author.Needs.{needs}
 use borrow.Author.Tests.{eq-eqb, ne-eqb}
-use Rattle.places.specs.Pick.{either}
+use Rattle.lists.specs.Pick.{either}
 use Rattle.contents.specs.Contents.{editionOr, rangeOr}
 use Rattle.search.specs.Search.{meets}
 use Rattle.search.specs.Steps.{opensBy}

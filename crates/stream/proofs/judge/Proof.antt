@@ -1,7 +1,7 @@
 -- `stream::judge` meets its contract: by what the reply is known to be, and by one test.
 -- Assumes nothing.
 use mathlib.Core.Path.{sym, ap, _∙_}
-use Rattle.places.specs.Pick.{pick}
+use Rattle.lists.specs.Pick.{pick}
 use Rattle.stream.specs.declared.Step.the-variants.{Same, Differs}
 use Rattle.stream.specs.Expected.{stepOf}
 use borrow.Author.Needs.{needs}

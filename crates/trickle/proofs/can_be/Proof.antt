@@ -5,7 +5,7 @@ use Prim.Native.Nat.{_*_}
 use lib.Dec.{leb}
 use borrow.Author.Needs.{needs}
 use borrow.Author.Tests.{le-leb, lt-leb}
-use Rattle.places.specs.Pick.{both}
+use Rattle.lists.specs.Pick.{both}
 use Rattle.trickle.proofs.can_be.Statement.{statement}
 use Rattle.trickle.proofs.can_be.Tie as tie
 

@@ -5,8 +5,8 @@ use Prim.Native.Nat.{_-_, _≤_}
 use native.Mathlib.Omega.{arith}
 use denote.Ref.{now}
 use lib.ListN.{getD}
-use Rattle.places.specs.Tab.{tab, over}
-use Rattle.places.proofs.Tabs.{Written, written-none, written-next, written-length}
+use Rattle.lists.specs.Tab.{tab, over}
+use Rattle.lists.proofs.Tabs.{Written, written-none, written-next, written-length}
 use Rattle.trickle.proofs.Fronts.{take-tab}
 use Rattle.trickle.proofs.copy_in.Statement.{statement}
 use Rattle.trickle.proofs.copy_in.Tie as tie

@@ -2,7 +2,7 @@
 -- Assumes nothing.
 use mathlib.Core.Path.{sym, ap, _∙_}
 use borrow.Author.Needs.{needs}
-use Rattle.places.specs.Pick.{pick}
+use Rattle.lists.specs.Pick.{pick}
 use Rattle.trickle.specs.Trickle.{countsAs, startedOf}
 use Rattle.trickle.proofs.counted.Statement.{statement}
 use Rattle.trickle.proofs.counted.Tie as tie

@@ -6,7 +6,7 @@ use native.Mathlib.Omega.{arith}
 use denote.Ref.{now}
 use lib.ListN.{length, take}
 use borrow.Author.Needs.{needs}
-use Rattle.places.specs.Tab.{over}
+use Rattle.lists.specs.Tab.{over}
 use Rattle.trickle.specs.Trickle.{takenOf, stateAfter, fedOf}
 use Rattle.trickle.proofs.States.{Limits, counted-as}
 use Rattle.trickle.proofs.feed.Statement.{statement}

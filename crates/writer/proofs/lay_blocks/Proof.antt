@@ -6,7 +6,7 @@ use native.Mathlib.Numerals.{add-one}
 use native.Mathlib.Omega.{arith}
 use denote.Ref.{now}
 use lib.ListN.{length}
-use Rattle.places.specs.Tab.{over}
+use Rattle.lists.specs.Tab.{over}
 use Rattle.contents.specs.Contents.{entrySize, contentsSize}
 use Rattle.candidates.specs.Candidates.{bodyFor}
 use Rattle.candidates.proofs.Choice.{chosen-short}

@@ -5,7 +5,7 @@ use mathlib.Core.Path.{ap, _∙_}
 use native.Mathlib.Omega.{arith}
 use denote.Ref.{now}
 use borrow.Author.Needs.{needs}
-use Rattle.places.specs.Tab.{over}
+use Rattle.lists.specs.Tab.{over}
 use Rattle.contents.specs.Contents.{entrySize, contentsSize}
 use Rattle.contents.proofs.Bytes.{head-fits}
 use Rattle.writer.specs.Writer.{blockCount, entriesFor, bodiesFor}

@@ -3,7 +3,7 @@
 use mathlib.Core.Path.{sym}
 use Prim.Native.Nat.{_-_}
 use native.Mathlib.Omega.{arith}
-use Rattle.places.proofs.Tabs.{length-tab, getD-tab}
+use Rattle.lists.proofs.Tabs.{length-tab, getD-tab}
 use Rattle.console.specs.Lines.{timesOf}
 use borrow.Author.Needs.{needs}
 use Rattle.console.proofs.Laid.{LaidTo, laid-none, laid-keeps, laid-next, laid-full, laid-end}

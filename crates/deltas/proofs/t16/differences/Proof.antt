@@ -9,10 +9,10 @@ use native.Mathlib.Omega.{arith}
 use denote.Ref.{now}
 use lib.ListN.{length, getD}
 use borrow.Author.Needs.{needs}
+use Rattle.lists.specs.Numbers.{minus}
 use Rattle.places.specs.Sizes.{t16, lanes}
 use Rattle.places.proofs.Places.{size16}
 use Rattle.rows.proofs.Blocks.{Rewritten, rewritten-none, rewritten-length, rewritten-put, rewritten-eight, rewritten-all, start-at, start-in}
-use Rattle.places.specs.Numbers.{minus}
 use Rattle.rows.specs.Rows.{subOf}
 use Rattle.packing.proofs.Turns.{row-from}
 use Rattle.deltas.specs.Deltas.{before, deltaOf}

@@ -7,8 +7,8 @@ use native.Mathlib.Omega.{arith}
 use denote.Ref.{now}
 use lib.ListN.{length}
 use borrow.Rule.Slice.PartMut.{putMid}
-use Rattle.places.specs.Tab.{over}
-use Rattle.places.proofs.Overs.{length-over}
+use Rattle.lists.specs.Tab.{over}
+use Rattle.lists.proofs.Overs.{length-over}
 use Rattle.decimal.specs.Decimal.{textOf}
 use Rattle.decimal.proofs.Texts.{long-most}
 use Rattle.listing.proofs.Lines.{field-long, number-laid, number-leaves, field-laid}

@@ -4,7 +4,7 @@ use mathlib.Core.Path.{_≡_, sym, ap, ap₂, _∙_}
 use denote.Ref.{now}
 use Prim.Native.Nat.{_+_}
 use lib.ListN.{length}
-use Rattle.places.specs.Tab.{over}
+use Rattle.lists.specs.Tab.{over}
 use Rattle.listing.specs.Text.{refusedText}
 use borrow.Author.Needs.{needs}
 use Rattle.listing.proofs.text.put_refused.Statement.{statement}

@@ -8,8 +8,8 @@ use denote.Ref.{now}
 use lib.ListN.{length, take}
 use lib.Seq.{take-all, length-take-le}
 use borrow.Author.Needs.{needs}
-use Rattle.places.specs.Tab.{over}
-use Rattle.places.proofs.Overs.{over-nothing, length-over}
+use Rattle.lists.specs.Tab.{over}
+use Rattle.lists.proofs.Overs.{over-nothing, length-over}
 use Rattle.listing.proofs.Lines.{text-next}
 use Rattle.listing.proofs.text.put_text.Statement.{statement}
 use Rattle.listing.proofs.text.put_text.Tie as tie

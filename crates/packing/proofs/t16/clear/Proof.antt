@@ -6,7 +6,7 @@ use Prim.Native.Nat.{ℕ, _-_, _≤_, zero-le}
 use native.Mathlib.Nat.{zero-add}
 use native.Mathlib.Omega.{arith}
 use borrow.Author.Needs.{needs}
-use Rattle.places.proofs.Tabs.{Written, written-none, written-length, written-next, written-all}
+use Rattle.lists.proofs.Tabs.{Written, written-none, written-length, written-next, written-all}
 use Rattle.packing.proofs.t16.clear.Statement.{statement}
 use Rattle.packing.proofs.t16.clear.Tie as tie
 

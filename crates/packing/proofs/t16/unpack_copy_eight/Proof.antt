@@ -6,7 +6,7 @@ use Prim.Native.Nat.{ℕ, _+_, _-_, _*_, _≤_, _<_}
 use native.Mathlib.Omega.{arith}
 use denote.Ref.{now}
 use borrow.Author.Needs.{needs}
-use Rattle.places.specs.Numbers.{Elements}
+use Rattle.lists.specs.Numbers.{Elements}
 use Rattle.places.specs.Sizes.{t16}
 use Rattle.places.proofs.Places.{size16}
 use Rattle.rows.proofs.Blocks.{Rewritten, rewritten-none, rewritten-length, rewritten-put, start-in}

@@ -5,7 +5,7 @@ use Prim.Native.Nat.{ℕ, _+_, _-_, _*_, _≤_, _<_}
 use native.Mathlib.Omega.{arith}
 use denote.Ref.{now}
 use borrow.Author.Needs.{needs}
-use Rattle.places.specs.Numbers.{Elements}
+use Rattle.lists.specs.Numbers.{Elements}
 use Rattle.places.specs.Sizes.{t64}
 use Rattle.places.proofs.Places.{size64}
 use Rattle.rows.proofs.Blocks.{Rewritten, rewritten-none, rewritten-length, rewritten-put, start-in}

@@ -3,7 +3,7 @@
 use mathlib.Core.Path.{sym, _∙_}
 use native.Mathlib.Omega.{arith}
 use borrow.Author.Needs.{needs}
-use Rattle.places.proofs.Tests.{both-true}
+use Rattle.lists.proofs.Tests.{both-true}
 use Rattle.stream.proofs.Expected.{step-same, same-step}
 use Rattle.replay.proofs.outcome.judge.Statement.{statement}
 use Rattle.replay.proofs.outcome.judge.Tie as tie

@@ -5,7 +5,7 @@ use Prim.Native.Nat.{ℕ, _+_, _-_, _*_, _≤_, zero-le}
 use native.Mathlib.Nat.{zero-add}
 use native.Mathlib.Omega.{arith}
 use borrow.Author.Needs.{needs}
-use Rattle.places.proofs.Tabs.{Written, written-none, written-next, written-length}
+use Rattle.lists.proofs.Tabs.{Written, written-none, written-next, written-length}
 use Rattle.little.specs.Little.{little}
 use Rattle.replay.proofs.Elements.{within}
 use Rattle.replay.proofs.wire.numbers.Statement.{statement}

@@ -8,9 +8,9 @@ use native.Mathlib.Omega.{arith}
 use denote.Ref.{now}
 use lib.ListN.{length, getD}
 use borrow.Author.Needs.{needs}
+use Rattle.lists.specs.Tab.{tab, tabFrom}
+use Rattle.lists.proofs.Tabs.{Written, written-none, written-next, written-all}
 use Rattle.places.specs.Sizes.{t16, lanes}
-use Rattle.places.specs.Tab.{tab, tabFrom}
-use Rattle.places.proofs.Tabs.{Written, written-none, written-next, written-all}
 use Rattle.rows.specs.Rows.{splatOf}
 use Rattle.rows.proofs.Rows.{load-short, load-room}
 use Rattle.rows.proofs.t16.load.Statement.{statement}

@@ -7,8 +7,8 @@ use native.Mathlib.Nat.{zero-add}
 use native.Mathlib.Omega.{arith}
 use lib.ListN.{length, getD}
 use borrow.Author.Needs.{needs}
+use Rattle.lists.proofs.Tabs.{Written, written-none, written-later, written-next, written-all}
 use Rattle.places.specs.Sizes.{t16, lanes}
-use Rattle.places.proofs.Tabs.{Written, written-none, written-later, written-next, written-all}
 use Rattle.rows.specs.Rows.{shrOf}
 use Rattle.rows.proofs.t16.shr.Statement.{statement}
 use Rattle.rows.proofs.t16.shr.Tie as tie

@@ -1,7 +1,7 @@
 -- `rows::t64::splat` meets its contract.
 -- Assumes nothing.
 use mathlib.Core.Path.{refl}
-use Rattle.places.specs.Tab.{tab, tabFrom}
+use Rattle.lists.specs.Tab.{tab, tabFrom}
 use Rattle.rows.specs.Rows.{splatOf}
 use Rattle.rows.proofs.t64.splat.Statement.{statement}
 use Rattle.rows.proofs.t64.splat.Tie as tie

@@ -8,8 +8,8 @@ use native.Mathlib.Omega.{arith}
 use lib.Bits.{bitOr}
 use lib.ListN.{length, getD}
 use borrow.Author.Needs.{needs}
+use Rattle.lists.proofs.Tabs.{Written, written-none, written-later, written-next, written-all}
 use Rattle.places.specs.Sizes.{t8, lanes}
-use Rattle.places.proofs.Tabs.{Written, written-none, written-later, written-next, written-all}
 use Rattle.rows.specs.Rows.{orShlOf}
 use Rattle.rows.proofs.t8.or_shl.Statement.{statement}
 use Rattle.rows.proofs.t8.or_shl.Tie as tie

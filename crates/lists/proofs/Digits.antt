@@ -11,7 +11,7 @@ use native.Mathlib.Omega.{arith}
 use lib.Arith.{digits-lt}
 use lib.ListN.{length, getD, List·getD-eq-default}
 use lib.Pow.{pow-pos, pow-add, mod-pow-add, field, split, shr-shr, high, low}
-use Rattle.places.specs.Numbers.{number, digit, Elements}
+use Rattle.lists.specs.Numbers.{number, digit, Elements}
 
 -- the exponent of one digit more
 pow-more : (b n : ℕ) → 2 ^ (b * suc n) ≡ 2 ^ b * 2 ^ (b * n)

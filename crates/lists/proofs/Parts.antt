@@ -8,9 +8,9 @@ use native.Mathlib.Nat.{suc-mul, not-suc-le-zero, zero-mul}
 use native.Mathlib.Omega.{arith}
 use lib.ListN.{length, getD, drop, length-append, length-take, length-drop}
 use lib.Seq.{getD-take, getD-drop}
-use Rattle.places.specs.Numbers.{Elements}
-use Rattle.places.specs.Parts.{cut, joined}
-use Rattle.places.proofs.Digits.{elements-of}
+use Rattle.lists.specs.Numbers.{Elements}
+use Rattle.lists.specs.Parts.{cut, joined}
+use Rattle.lists.proofs.Digits.{elements-of}
 
 module _ {A : Type 0} (n : ℕ) (l : List A) (b : ℕ) where
   -- A part that is there has n entries,

@@ -9,9 +9,9 @@ use native.Mathlib.Numerals.{add-one}
 use native.Mathlib.Omega.{arith}
 use lib.ListN.{length, getD, drop, drop-of-length-le}
 use lib.Seq.{drop-cons}
-use Rattle.places.specs.Numbers.{Elements}
-use Rattle.places.specs.Sizes.{t64, largestU64}
-use Rattle.bodies.specs.Ranges.{lowestOf}
+use Rattle.lists.specs.Members.{Stands}
+use Rattle.lists.specs.Numbers.{Elements}
+use Rattle.lists.specs.Ends.{lowestOf}
 
 -- No number of a list is lower than the lowest;
 pub lowest-bound : (xs : List ℕ) (i : ℕ) → i < length xs → lowestOf xs ≤ getD xs i 0
@@ -21,7 +21,7 @@ lowest-bound (x ∷ xs) zero h = omega arith
 lowest-bound (x ∷ xs) (suc i) h = let m : lowestOf xs ≤ getD xs i 0 = lowest-bound xs i (le-of-suc-le-suc h) in omega arith
 
 -- the lowest of a list of elements that is not empty stands in it,
-pub lowest-stands : (xs : List ℕ) → 0 < length xs → Elements t64 xs → (i : ℕ) × (i < length xs) × (getD xs i 0 ≡ lowestOf xs)
+pub lowest-stands : (xs : List ℕ) → 0 < length xs → Elements 64 xs → Stands (lowestOf xs) xs
 unfolding lowestOf
 lowest-stands [] h fits = absurd (not-suc-le-zero h)
 lowest-stands (x ∷ []) h fits = let small : x < 2 ^ 64 = fits 0 in (zero, h, omega arith)
@@ -44,7 +44,7 @@ pub record Passed (xs : List ℕ) (low i : ℕ) : Type 0 where
   pub small : low < 18446744073709551616
   pub same : min low (lowestOf (drop i xs)) ≡ lowestOf xs
 
-pub passed-none : (xs : List ℕ) → Passed xs largestU64 0
+pub passed-none : (xs : List ℕ) → Passed xs 18446744073709551615 0
 passed-none xs = record { within = omega arith; small = omega arith; same = omega (arith, lowest-element xs) }
 
 pub passed-next : {xs : List ℕ} {low i : ℕ} (next : ℕ) → Passed xs low i → i < length xs → next ≡ min low (getD xs i 0) → Passed xs next (i + 1)

@@ -1,4 +1,4 @@
--- A choice by a test, and two tests as one. They have names of our own, so that a contract reads as document 01 does.
+-- A choice by a test, two tests as one, and a test the other way round. They have names of our own, so that a contract reads as document 01 does.
 -- Assumes nothing.
 use mathlib.Core.Bool.{Bool, true, false}
 
@@ -16,3 +16,7 @@ both false b = false
 abbrev pub either : Bool → Bool → Bool
 either true b = true
 either false b = b
+
+-- This test says that the test fails.
+abbrev pub fails : Bool → Bool
+fails test = pick test false true

@@ -8,9 +8,9 @@ use native.Mathlib.Decide.{decLt}
 use native.Mathlib.Omega.{arith}
 use lib.ListN.{length, getD, length-append, List·getD-append}
 use lib.Seq.{getD-append-add}
-use Rattle.search.specs.Passing.{passing}
-use Rattle.search.specs.Plain.{Stands, Rising}
-use Rattle.search.proofs.Passing.{one}
+use Rattle.lists.specs.Passing.{passing}
+use Rattle.lists.specs.Members.{Stands, Rising}
+use Rattle.lists.proofs.Passing.{one}
 
 -- the entry behind a list
 last-at : (xs : List ℕ) (v : ℕ) → getD (xs ++ (v ∷ [])) (length xs) 0 ≡ v

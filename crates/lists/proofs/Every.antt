@@ -5,7 +5,7 @@ use mathlib.Core.Bool.{Bool, true, false}
 use Prim.Native.Nat.{ℕ, zero, suc, _+_, _<_}
 use native.Mathlib.Nat.{add-zero, zero-add, add-suc, suc-add, le-of-suc-le-suc, not-suc-le-zero}
 use lib.Dec.{T, eqb, ltb, eqb→eq, ltb→lt}
-use Rattle.places.specs.Pick.{both}
+use Rattle.lists.specs.Pick.{both}
 
 both-left : (a b : Bool) → T (both a b) → T a
 both-left true b t = tt

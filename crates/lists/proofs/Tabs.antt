@@ -8,9 +8,9 @@ use native.Mathlib.Numerals.{add-one}
 use native.Mathlib.Omega.{arith}
 use lib.ListN.{length, getD, take, drop, set, length-append, length-take, List·getD-append}
 use lib.Seq.{ext-getD, getD-take, append-snoc, getD-drop, getD-append-add, drop-length, drop-cons, set-at}
-use Rattle.places.specs.Tab.{tab, tabFrom, over}
-use Rattle.places.proofs.Overs.{over-nothing, over-append}
-pub use Rattle.places.proofs.Overs.{length-over}
+use Rattle.lists.specs.Tab.{tab, tabFrom, over}
+use Rattle.lists.proofs.Overs.{over-nothing, over-append}
+pub use Rattle.lists.proofs.Overs.{length-over}
 
 length-from : {A : Type 0} (s n : ℕ) (f : ℕ → A) → length (tabFrom s n f) ≡ n
 unfolding tabFrom

@@ -2,16 +2,18 @@
 -- Assumes nothing.
 use mathlib.Core.List.{List, [], _∷_}
 use mathlib.Core.Logic.{_↔_}
-use mathlib.Core.Path.{_≡_}
+use mathlib.Core.Path.{_≡_, _∙_}
 use Prim.Native.Nat.{ℕ, zero, suc, _+_, _≤_, _<_, max, zero-le, suc-le-suc}
+use native.Mathlib.Decide.{decLe}
 use native.Mathlib.Nat.{le-of-suc-le-suc, not-suc-le-zero}
 use native.Mathlib.Numerals.{add-one}
 use native.Mathlib.Omega.{arith}
 use lib.ListN.{length, getD, drop, drop-of-length-le}
 use lib.Seq.{drop-cons}
-use Rattle.places.specs.Search.{firstBeyond}
-use Rattle.runs.specs.Highest.{highestOf}
-use Rattle.places.proofs.Search.{first-beyond-none}
+use Rattle.lists.specs.Members.{Stands}
+use Rattle.lists.specs.Search.{firstBeyond}
+use Rattle.lists.specs.Ends.{highestOf}
+use Rattle.lists.proofs.Search.{first-beyond-none}
 
 -- no number of the list is higher
 pub highest-bound : (xs : List ℕ) (i : ℕ) → i < length xs → getD xs i 0 ≤ highestOf xs
@@ -28,6 +30,18 @@ highest-below n (x ∷ xs) some all =
     let m : highestOf xs < n = highest-below n xs some (λ i h. all (suc i) (suc-le-suc h)) in
     let h : x < n = all 0 (suc-le-suc zero-le) in
     omega arith
+
+-- The highest number of a list that is not empty stands in it.
+pub highest-stands : (xs : List ℕ) → 0 < length xs → Stands (highestOf xs) xs
+unfolding highestOf
+highest-stands [] h = absurd (not-suc-le-zero h)
+highest-stands (x ∷ []) h = (zero, h, omega arith)
+highest-stands (x ∷ y ∷ ys) h =
+    let rest = highest-stands (y ∷ ys) (suc-le-suc zero-le) in
+    elim (decLe (highestOf (y ∷ ys)) x) [
+      | yes low ↦ (zero, suc-le-suc zero-le, omega arith)
+      | no high ↦ (suc (rest .0), suc-le-suc (rest .1), rest .2 ∙ omega arith)
+    ]
 
 -- No place of a list that is not empty is at or beyond the limit exactly when the highest number is below it.
 pub highest-beyond : (n : ℕ) (xs : List ℕ) → 0 < length xs → (highestOf xs < n) ↔ (firstBeyond n xs ≡ length xs)

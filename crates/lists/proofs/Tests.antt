@@ -4,7 +4,7 @@ use mathlib.Core.Bool.{Bool, true, false}
 use mathlib.Core.Logic.{_⊎_, inl, inr}
 use mathlib.Core.Path.{_≡_, refl, sym}
 use borrow.Author.Tests.{eqb-false}
-use Rattle.places.specs.Pick.{both, either}
+use Rattle.lists.specs.Pick.{both, either}
 
 -- What two tests as one tell of each, and that a test does not both pass and fail.
 pub both-true : (a b : Bool) → both a b ≡ true → (a ≡ true) × (b ≡ true)

@@ -9,7 +9,7 @@ use native.Mathlib.Numerals.{add-one}
 use native.Mathlib.Omega.{arith}
 use lib.ListN.{length, set, take, drop, length-append, length-take, length-drop, take-append-drop}
 use lib.Seq.{set-split, length-take-le, take-append-le, drop-append-le, take-append-add, drop-append-add, take-append-seam, drop-append-seam, take-at, drop-drop}
-use Rattle.places.specs.Tab.{over}
+use Rattle.lists.specs.Tab.{over}
 
 -- the list keeps its length
 pub length-over : {A : Type 0} (p : ℕ) (x l : List A) → p + length x ≤ length l → length (over p x l) ≡ length l

@@ -1,0 +1,15 @@
+pub mod Anew
+pub mod Answers
+pub mod Digits
+pub mod Ends
+pub mod Every
+pub mod Failing
+pub mod Highs
+pub mod Lows
+pub mod Members
+pub mod Overs
+pub mod Parts
+pub mod Passing
+pub mod Search
+pub mod Tabs
+pub mod Tests

@@ -1,0 +1,9 @@
+pub mod Ends
+pub mod Members
+pub mod Numbers
+pub mod Parts
+pub mod Passing
+pub mod Pick
+pub mod Search
+pub mod Tab
+pub mod Tests
