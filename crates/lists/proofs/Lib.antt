@@ -1,4 +1,3 @@
-pub mod Anew
 pub mod Answers
 pub mod Digits
 pub mod Ends
