@@ -1,6 +1,6 @@
--- What a call on a column file answers: document 02's numbers and places, the answer by a list of tests, and what a call leaves in a lent
--- buffer. The tests of each call (Items 1, 3, 9, 11 and 14, "Refusals, in order") stand beside it, in the order of its item, which is not that of
--- the numbers.
+-- What a call on a column file answers: document 02's numbers and places, the answer by a list of tests, and what a
+-- call leaves in a lent buffer. The tests of each call (Items 1, 3, 9, 11 and 14, "Refusals, in order") stand beside
+-- it, in the order of its item, which is not that of the numbers.
 -- Assumes nothing.
 use mathlib.Core.Bool.{Bool}
 use mathlib.Core.List.{List}
@@ -25,8 +25,8 @@ numberOf Room = 14
 numberOf (Range p) = 15
 numberOf (Foreign p) = 17
 
--- With the number a place is returned. It is 0 for every number but 10, whose place is the entry, and 13, 15 and 17, whose place is
--- the block.
+-- With the number a place is returned. It is 0 for every number but 10, whose place is the entry, and 13, 15 and 17,
+-- whose place is the block.
 abbrev pub placeOf : FileAnswer → ℕ
 placeOf Done = 0
 placeOf Block = 0
@@ -52,6 +52,7 @@ fileAnswer tests = firstRefusal Done tests
 abbrev pub isDone : FileAnswer → Bool
 isDone a = eqb (numberOf a) 0
 
--- This is what a lent buffer holds after a call: where the call is done what it should hold, and after a refusal what it held.
+-- This is what a lent buffer holds after a call: where the call is done what it should hold, and after a refusal what
+-- it held.
 abbrev pub left : {A : Type 0} → FileAnswer → (new old : A) → A
 left a new old = pick (isDone a) new old

@@ -1,4 +1,5 @@
--- A drawer of blocks (document 02, Item 7): what the calls on m blocks of one width answer, and what each leaves in the buffer lent to it.
+-- A drawer of blocks (document 02, Item 7): what the calls on m blocks of one width answer, and what each leaves in
+-- the buffer lent to it.
 -- Assumes nothing.
 use mathlib.Core.List.{List, [], _∷_}
 use Prim.Native.Nat.{ℕ, _*_}
@@ -13,7 +14,8 @@ use Rattle.places.specs.Sizes.{lanes}
 use Rattle.packing.specs.Packed.{unpackOf}
 use Rattle.deltas.specs.Deltas.{forPackOf}
 
--- Both calls make these tests, in the order of the numbers: the width, the blocks of values, of which there are at most 256, and the packed blocks.
+-- Both calls make these tests, in the order of the numbers: the width, the blocks of values, of which there are at
+-- most 256, and the packed blocks.
 abbrev pub drawerTests : (t w m : ℕ) (values packed : List ℕ) → List (Test Answer)
 drawerTests t w m values packed =
     (leb w t, Width)
@@ -25,7 +27,8 @@ drawerTests t w m values packed =
 unfoldable pub drawerAnswer : (t w m : ℕ) (values packed : List ℕ) → Answer
 drawerAnswer t w m values packed = firstRefusal Done (drawerTests t w m values packed)
 
--- The list x is cut into parts of n entries. These are the first m of them, each turned into another list by the rule g, one after another.
+-- The list x is cut into parts of n entries. These are the first m of them, each turned into another list by the rule
+-- g, one after another.
 unfoldable pub eachPart : (n : ℕ) (g : List ℕ → List ℕ) (m : ℕ) (x : List ℕ) → List ℕ
 eachPart n g m x = joined m (λ b. g (cut n x b))
 

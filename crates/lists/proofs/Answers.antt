@@ -1,5 +1,5 @@
--- What is given and left by an answer, for every type of answers: of a call that is done, which has number 0, and of one that is refused. And a list of
--- tests that all pass.
+-- What is given and left by an answer, for every type of answers: of a call that is done, which has number 0, and of
+-- one that is refused. And a list of tests that all pass.
 -- Assumes nothing.
 use mathlib.Core.Bool.{Bool, true, false}
 use mathlib.Core.List.{List, _∷_}
@@ -33,7 +33,8 @@ module _ {A S : Type 0} (numberOf : A → ℕ) where
         | no other ↦ ap (λ b. read (pick b given (refused a))) (ne-eqb (numberOf a) 0 other) ∙ of-refused a
       ]
 
--- Where all tests of a list pass, the first one does, and so do the others, if its refusal is not what stands for a call that is done.
+-- Where all tests of a list pass, the first one does, and so do the others, if its refusal is not what stands for a
+-- call that is done.
 pub first-passed : {A : Type 0} (done : A) (x : Test A) (xs : List (Test A)) → (x .1 ≡ done → ⊥)
     → firstRefusal done (x ∷ xs) ≡ done → (x .0 ≡ true) × (firstRefusal done xs ≡ done)
 first-passed done x xs other e = go (x .0) refl e

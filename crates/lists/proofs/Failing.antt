@@ -1,5 +1,5 @@
--- The laws of the list of the numbers whose test fails, from those of the numbers that pass: it has each of them and no other, and it rises; and how
--- lists of neighbouring ranges join.
+-- The laws of the list of the numbers whose test fails, from those of the numbers that pass: it has each of them and
+-- no other, and it rises; and how lists of neighbouring ranges join.
 -- Assumes nothing.
 use mathlib.Core.Bool.{Bool, true, false}
 use mathlib.Core.List.{[], _∷_, _++_, map}

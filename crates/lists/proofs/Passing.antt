@@ -1,5 +1,5 @@
--- The laws of the numbers that pass a test: one more, two runs of them one after the other, another test that tells the same, and a rule for
--- each.
+-- The laws of the numbers that pass a test: one more, two runs of them one after the other, another test that tells
+-- the same, and a rule for each.
 -- Assumes nothing.
 use mathlib.Core.Bool.{Bool, true, false}
 use mathlib.Core.List.{List, [], _∷_, _++_, map, append-nil, append-assoc}

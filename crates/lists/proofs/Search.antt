@@ -1,6 +1,6 @@
--- The laws of the search for the lowest that fails: of a list of tests, and from them of the numbers below a count and of a list of numbers that have
--- to be below a limit. `first-only` and `first-beyond-only` are what a search loop cites at each of its ends: it knows that what it has passed
--- does not fail.
+-- The laws of the search for the lowest that fails: of a list of tests, and from them of the numbers below a count
+-- and of a list of numbers that have to be below a limit. `first-only` and `first-beyond-only` are what a search loop
+-- cites at each of its ends: it knows that what it has passed does not fail.
 -- Assumes nothing.
 use mathlib.Core.Bool.{Bool, true, false}
 use mathlib.Core.List.{List, [], _∷_, map}

@@ -15,8 +15,8 @@ unfoldable pub lowestOf : List ℕ → ℕ
 lowestOf [] = 2 ^ 64 - 1
 lowestOf (x ∷ xs) = min x (lowestOf xs)
 
--- Two numbers span a list: every number of it is between them, and both stand in it. That the lowest and the highest do so, of a list of numbers of
--- 64 bits that is not empty, and no other two, is a law.
+-- Two numbers span a list: every number of it is between them, and both stand in it. That the lowest and the highest
+-- do so, of a list of numbers of 64 bits that is not empty, and no other two, is a law.
 pub record Spans (low high : ℕ) (xs : List ℕ) : Type 0 where
   pub between : (i : ℕ) → i < length xs → (low ≤ getD xs i 0) × (getD xs i 0 ≤ high)
   pub lowest : Stands low xs

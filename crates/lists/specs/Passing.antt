@@ -1,5 +1,5 @@
--- The numbers that pass a test, and those that fail one, rising: the blocks that a search opens, the rows that it lists, the places at which two
--- blocks differ.
+-- The numbers that pass a test, and those that fail one, rising: the blocks that a search opens, the rows that it
+-- lists, the places at which two blocks differ.
 -- Assumes nothing.
 use mathlib.Core.Bool.{Bool}
 use mathlib.Core.List.{List, [], _∷_, _++_}

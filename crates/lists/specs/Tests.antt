@@ -11,12 +11,13 @@ use Rattle.lists.specs.Pick.{pick}
 abbrev pub unless : {A : Type 0} → (test : Bool) (refusal rest : A) → A
 unless test refusal rest = pick test rest refusal
 
--- A test of a call stands with the refusal that is given where it fails: the first of the two is the test, and the second the refusal.
+-- A test of a call stands with the refusal that is given where it fails: the first of the two is the test, and the
+-- second the refusal.
 abbrev pub Test : (A : Type 0) → Type 0
 Test A = Bool × A
 
--- The tests of a call stand in a list. The first one that fails gives its refusal, and where every one passes the call is done. The layers
--- differ in their answers, and all of them go through their tests so.
+-- The tests of a call stand in a list. The first one that fails gives its refusal, and where every one passes the
+-- call is done. The layers differ in their answers, and all of them go through their tests so.
 abbrev pub firstRefusal : {A : Type 0} → (done : A) → List (Test A) → A
 firstRefusal done [] = done
 firstRefusal done (x ∷ xs) = unless (x .0) (x .1) (firstRefusal done xs)

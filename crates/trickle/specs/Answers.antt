@@ -1,5 +1,6 @@
--- What the calls on a body that trickles in answer (document 02, Item 10): the numbers and places, the answer by a list of tests, and what a
--- call leaves in a lent buffer. The tests of each call stand beside it, in the order of the item.
+-- What the calls on a body that trickles in answer (document 02, Item 10): the numbers and places, the answer by a
+-- list of tests, and what a call leaves in a lent buffer. The tests of each call stand beside it, in the order of the
+-- item.
 -- Assumes nothing.
 use mathlib.Core.Bool.{Bool}
 use mathlib.Core.List.{List}
@@ -32,6 +33,7 @@ trickleAnswer tests = firstRefusal Done tests
 abbrev pub isDone : TrickleAnswer → Bool
 isDone a = eqb (numberOf a) 0
 
--- This is what a lent buffer holds after a call: where the call is done what it should hold, and after a refusal what it held.
+-- This is what a lent buffer holds after a call: where the call is done what it should hold, and after a refusal what
+-- it held.
 abbrev pub left : {A : Type 0} → TrickleAnswer → (new old : A) → A
 left a new old = pick (isDone a) new old

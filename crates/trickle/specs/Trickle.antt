@@ -1,4 +1,5 @@
--- A packed u64 body that comes in chunks (document 02, Item 10): what a state counts as, and what start, feed and ask give for every input.
+-- A packed u64 body that comes in chunks (document 02, Item 10): what a state counts as, and what start, feed and ask
+-- give for every input.
 -- Assumes nothing.
 use mathlib.Core.Bool.{Bool}
 use mathlib.Core.List.{List, [], _∷_, _++_}
@@ -29,7 +30,8 @@ bodySize w = 128 * w
 abbrev pub startAnswer : (w : ℕ) → TrickleAnswer
 startAnswer w = trickleAnswer ((leb w 64, Width) ∷ [])
 
--- It gives the state of that width with nothing held, and where it is refused that of width 0. All the room holds zeros.
+-- It gives the state of that width with nothing held, and where it is refused that of width 0. All the room holds
+-- zeros.
 unfoldable pub startedOf : (w : ℕ) → Started
 startedOf w = record {
   answer = startAnswer w;
@@ -38,11 +40,13 @@ startedOf w = record {
 
 -- ---- what a state counts as
 
--- This test says that a state can be the state of a body: its width is at most 64, and it holds no more bytes than the body has.
+-- This test says that a state can be the state of a body: its width is at most 64, and it holds no more bytes than
+-- the body has.
 abbrev pub canBe : (width held : ℕ) → Bool
 canBe width held = both (leb width 64) (leb held (bodySize width))
 
--- A state that can be counts as itself, and one that cannot be as the state of width 0, which is the one that a refused start gives.
+-- A state that can be counts as itself, and one that cannot be as the state of width 0, which is the one that a
+-- refused start gives.
 unfoldable pub countsAs : (s : State) → State
 countsAs s = pick (canBe (s .width) (s .held)) s (startedOf 0 .state)
 
@@ -64,8 +68,8 @@ heldOf s = take (countOf s) (countsAs s .room)
 unfoldable pub takenOf : (s : State) (chunk : List ℕ) → ℕ
 takenOf s chunk = min (length chunk) (bodySize (widthOf s) - countOf s)
 
--- It gives the state that this one counts as, with the bytes that were taken written behind those held. All other bytes of that state's room are as
--- they were.
+-- It gives the state that this one counts as, with the bytes that were taken written behind those held. All other
+-- bytes of that state's room are as they were.
 unfoldable pub stateAfter : (s : State) (chunk : List ℕ) → State
 stateAfter s chunk = record {
   width = widthOf s;
