@@ -1,5 +1,5 @@
--- What the walks of deltas and frames hold between two rows, and what a turn makes of a row, over the element size. What those that pack or
--- unpack do besides is said in packing Walks.
+-- What the walks of deltas and frames hold between two rows, and what a turn makes of a row, over the element size.
+-- What those that pack or unpack do besides is said in packing Walks.
 -- Assumes nothing.
 use mathlib.Core.Path.{_≡_, sym, ap, ap₂, _∙_}
 use mathlib.Core.List.{List}
@@ -19,7 +19,8 @@ use Rattle.rows.proofs.Rows.{load-room, add-tab, sub-tab}
 use Rattle.packing.specs.Packed.{valueAt, unpackOf}
 use Rattle.packing.proofs.Rounds.{digit-zero, value-zero}
 use Rattle.deltas.specs.Deltas.{before, summed, undeltaOf, undeltaPackOf, frameOf, unforPackOf}
-use Rattle.deltas.proofs.Lanes.{plus-zero, minus-lt, summed-zero, length-undelta, undelta-at, delta-row-first, delta-row-next}
+use Rattle.deltas.proofs.Lanes.{plus-zero, minus-lt, summed-zero, length-undelta, undelta-at}
+use Rattle.deltas.proofs.Lanes.{delta-row-first, delta-row-next}
 
 -- a base has one value for each lane, so a load gives all of it
 pub load-base : (t : ℕ) (b : List ℕ) → length b ≡ lanes t → loadOf t b ≡ b
@@ -56,27 +57,37 @@ sum-row {t} s v b zero h e =
 sum-row {t} s v b (suc r) h e =
     add-tab t _ _
     ∙ tab-ext (lanes t) _ _ 0
-    (λ l hl. ap (plus t (getD v (place (suc r) l) 0)) (undelta-at s v b l hl r (omega arith)) ∙ sym (undelta-at s v b l hl (suc r) h))
+    (λ l hl.
+    ap (plus t (getD v (place (suc r) l) 0)) (undelta-at s v b l hl r (omega arith))
+    ∙ sym (undelta-at s v b l hl (suc r) h))
 
--- Before row r, a walk that sums the numbers v has laid down the rows before it, and holds the last of them, or the base.
+-- Before row r, a walk that sums the numbers v has laid down the rows before it, and holds the last of them; at row 0
+-- it holds the base.
 pub record Summing (t : ℕ) (v b : List ℕ) (r : ℕ) (y prev : List ℕ) : Type 0 where
   pub base : length b ≡ lanes t
   pub laid : Laid t r (λ p. getD (undeltaOf t v b) p 0) y
   pub holds : prev ≡ rowBefore t (undeltaOf t v b) b r
 
 -- before the first row it holds the base
-pub summing-none : {t : ℕ} {v b y prev : List ℕ} → length b ≡ lanes t → length y ≡ 1024 → prev ≡ loadOf t b → Summing t v b 0 y prev
+pub summing-none : {t : ℕ} {v b y prev : List ℕ} → length b ≡ lanes t → length y ≡ 1024 → prev ≡ loadOf t b
+    → Summing t v b 0 y prev
 summing-none {t} {b = b} e long ep = record { base = e; laid = laid-none long; holds = ep ∙ load-base t b e }
 
 -- the next row is summed, put in its place, and held
-pub summing-next : {t : ℕ} (s : Size t) {r : ℕ} → r < t → {v b y prev : List ℕ} → Summing t v b r y prev → {start : ℕ} → start ≡ place r 0
-    → {row next z : List ℕ} → row ≡ rowOf t v r → next ≡ addOf t row prev → z ≡ over start next y → Summing t v b (r + 1) z next
+pub summing-next : {t : ℕ} (s : Size t) {r : ℕ} → r < t → {v b y prev : List ℕ} → Summing t v b r y prev
+    → {start : ℕ} → start ≡ place r 0 → {row next z : List ℕ} → row ≡ rowOf t v r → next ≡ addOf t row prev
+    → z ≡ over start next y → Summing t v b (r + 1) z next
 summing-next {t} s {r} hr {v} {b} w es er en ez =
     let sums = en ∙ ap₂ (addOf t) er (w .holds) ∙ sum-row s v b r hr (w .base) in
-    record { base = w .base; laid = laid-next s hr (w .laid) es sums ez; holds = sums ∙ sym (before-later t (undeltaOf t v b) b r) }
+    record {
+      base = w .base;
+      laid = laid-next s hr (w .laid) es sums ez;
+      holds = sums ∙ sym (before-later t (undeltaOf t v b) b r);
+    }
 
 -- after the last row all is summed
-pub summing-all : {t : ℕ} (s : Size t) {n : ℕ} {v b y prev : List ℕ} → Summing t v b n y prev → t ≤ n → y ≡ undeltaOf t v b
+pub summing-all : {t : ℕ} (s : Size t) {n : ℕ} {v b y prev : List ℕ} → Summing t v b n y prev → t ≤ n
+    → y ≡ undeltaOf t v b
 summing-all {t} s {v = v} {b} w h = laid-all s (w .laid) h ∙ tab-getD (undeltaOf t v b) 0 1024 (length-undelta t v b)
 
 -- ---- frames

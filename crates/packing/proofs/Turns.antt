@@ -1,5 +1,5 @@
--- What one turn of the walks does to rows: the laws of `Steps`, said of all lanes at once, over the element size. What a walk holds between two
--- turns is said in `Walks`.
+-- What one turn of the walks does to rows: the laws of `Steps`, said of all lanes at once, over the element size.
+-- Single access reads one lane by `value-one` and `value-two`. What a walk holds between two turns is said in `Walks`.
 -- Assumes nothing.
 use mathlib.Core.Path.{_≡_, sym, ap, ap₂, _∙_}
 use mathlib.Core.List.{List}
@@ -21,7 +21,8 @@ use Rattle.rows.proofs.Blocks.{rowFrom, rowOf}
 use Rattle.rows.proofs.Rows.{shr-tab, mask-tab, or-shl-tab}
 use Rattle.packing.specs.Packed.{word, part, wordsNumber, valuesNumber, wordAt, valueAt}
 use Rattle.packing.proofs.Rounds.{word-fits, value-place, part-lt}
-use Rattle.packing.proofs.Steps.{held, word-lt, second-lt, filling, read-one, read-two, held-zero, write-on, write-word, write-rest}
+use Rattle.packing.proofs.Steps.{held, word-lt, second-lt, filling, read-one, read-two}
+use Rattle.packing.proofs.Steps.{held-zero, write-on, write-word, write-rest}
 
 -- row r begins at bit (r · w) mod t of word (r · w) / t
 pub begins : (t w r : ℕ) → r * w ≡ r * w / t * t + r * w % t

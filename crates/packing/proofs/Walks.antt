@@ -1,5 +1,5 @@
--- The walks over a packed block: what a walk holds between two rows, and how one turn carries it on, over the element size. The walks of
--- packing lean on this module, and so do those of deltas, which pack or unpack as they go:
+-- The walks over a packed block: what a walk holds between two rows, and how one turn carries it on, over the element
+-- size. The walks of packing lean on this module, and so do those of deltas, which pack or unpack as they go:
 --
 --   At         where a walk stands before a row;
 --   Read       what a turn that unpacks has read, and where it stands then;
@@ -29,7 +29,8 @@ use Rattle.rows.proofs.Blocks.{rowFrom, rowOf, Starts, starts-first, starts-nex
 use Rattle.packing.specs.Packed.{word, part, valuesNumber, wordAt, packOf, valueAt}
 use Rattle.packing.proofs.Rounds.{value-place, digit-words, part-lt}
 use Rattle.packing.proofs.Steps.{on-word, on-bit, over-word, over-bit, word-all}
-use Rattle.packing.proofs.Turns.{begins, word-room, wordRow, first-word, next-word, row-one, row-two, values-row, word-lane, heldRow, held-none, held-on, full-words, held-rest}
+use Rattle.packing.proofs.Turns.{begins, word-room, wordRow, first-word, next-word, row-one, row-two, values-row}
+use Rattle.packing.proofs.Turns.{word-lane, heldRow, held-none, held-on, full-words, held-rest}
 
 -- ---- where a walk stands
 
@@ -215,7 +216,12 @@ module _ {t : ℕ} (size : Size t) {w r : ℕ} (hr : r < t) (pos : 0 < w) (narro
 -- before the first row nothing is packed
 pub packing-none : (t w : ℕ) (values packed held : List ℕ) → length packed ≡ lanes t * w → held ≡ splatOf t 0 → Packing t w values 0 packed held 0 0 0
 packing-none t w values packed held e eh =
-    record { stands = at-first t w; holds = eh ∙ held-none t w values; filled = rw (zero-mul, zero-div) (filled-none e); starts = starts-first }
+    record {
+      stands = at-first t w;
+      holds = eh ∙ held-none t w values;
+      filled = rw (zero-mul, zero-div) (filled-none e);
+      starts = starts-first;
+    }
 
 -- after the last row all is
 pub packing-all : {t w : ℕ} (size : Size t) {values packed held : List ℕ} {r s word start : ℕ} → r ≡ t → Packing t w values r packed held s word start

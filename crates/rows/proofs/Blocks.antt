@@ -1,5 +1,5 @@
--- Rows in a block: where a row stands, what a load of it gives, and the law behind every walk that lays a block down row by row, over the
--- element size.
+-- Rows in a block: where a row stands, what a load of it gives, and the law behind every walk that lays a block down
+-- row by row, over the element size.
 -- Assumes nothing.
 use mathlib.Core.Path.{_≡_, refl, sym, ap, _∙_}
 use mathlib.Core.List.{List, _++_, append-nil, append-assoc}
@@ -73,15 +73,15 @@ pub laid-none : {t : ℕ} {f : ℕ → ℕ} {y : List ℕ} → length y ≡ 1024
 laid-none e = record { long = e; rows = λ p _ b. absurd (omega arith) }
 
 -- The next row is laid down: over the block, from the row's start on, stands what the rule gives for its places.
-module _ {t : ℕ} (s : Size t) {r : ℕ} (hr : r < t) {f : ℕ → ℕ} {y : List ℕ} (w : Laid t r f y) {q : ℕ} (eq : q ≡ place r 0)
-    {v : List ℕ} (ev : v ≡ tab (lanes t) (λ l. f (place r l))) where
+module _ {t : ℕ} (s : Size t) {r : ℕ} (hr : r < t) {f : ℕ → ℕ} {y : List ℕ} (w : Laid t r f y)
+    {q : ℕ} (eq : q ≡ place r 0) {v : List ℕ} (ev : v ≡ tab (lanes t) (λ l. f (place r l))) where
   row-long : length v ≡ lanes t
   row-long = ap length ev ∙ length-tab (lanes t) (λ l. f (place r l))
 
   room : q + length v ≤ length y
   room = omega (arith, start-room s r hr, w .long, row-long)
 
-  -- the place of lane l in the row
+  -- a place of the row is that of the lane that lies so far behind the row's start
   to-place : (p : ℕ) → q ≤ p → place r (p - q) ≡ p
   to-place p g = place-lane r (p - q) ∙ omega arith
 
@@ -108,7 +108,8 @@ module _ {t : ℕ} (s : Size t) {r : ℕ} (hr : r < t) {f : ℕ → ℕ} {y : Li
   -- a place of the row itself
   own-row : (p : ℕ) → p < 1024 → row t p ≡ r → getD (over q v y) p 0 ≡ f p
   own-row p h e =
-      let at : p ≡ place r 0 + lane t p = sym (place-row-lane s p h) ∙ ap (λ n. place n (lane t p)) e ∙ place-lane r (lane t p) in
+      let at : p ≡ place r (lane t p) = sym (place-row-lane s p h) ∙ ap (λ n. place n (lane t p)) e in
+      let on : place r (lane t p) ≡ place r 0 + lane t p = place-lane r (lane t p) in
       in-row p (omega arith) (omega (arith, lane-lt s p h))
 
   pub laid-next : {z : List ℕ} → z ≡ over q v y → Laid t (r + 1) f z
@@ -138,8 +139,8 @@ module _ {t : ℕ} (s : Size t) (o i q : ℕ) (hi : i < 8) (hr : o * 8 + i < t) 
   start-in = omega (arith, start-at, start-room s (o * 8 + i) hr)
 
   -- the row is put in its place
-  pub laid-put : {f : ℕ → ℕ} {y z v : List ℕ} → Laid t (o * 8 + i) f y → v ≡ tab (lanes t) (λ l. f (place (o * 8 + i) l)) → z ≡ over q v y
-      → Laid t (o * 8 + (i + 1)) f z
+  pub laid-put : {f : ℕ → ℕ} {y z v : List ℕ} → Laid t (o * 8 + i) f y
+      → v ≡ tab (lanes t) (λ l. f (place (o * 8 + i) l)) → z ≡ over q v y → Laid t (o * 8 + (i + 1)) f z
   laid-put w ev ez = rw (← add-assoc (o * 8) i 1) (laid-next s hr w start-at ev ez)
 
 -- ---- walks that go from row to row with `next_start`

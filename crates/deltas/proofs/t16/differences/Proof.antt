@@ -67,7 +67,9 @@ put-at-requires : tie.Need-put-at-requires Inv-loop2 μ-loop2 Inv-loop μ-loop
 put-at-requires c κs =
     let at-start = c .before .before .before in
     let in-loop = at-start .before in
-    rw (in-loop .before .loop2 .inv .2 .long) (start-in size16 _ _ _ (in-loop .loop2-test .taken) (row-lt in-loop) (at-start .row-start .ensures))
+    let found = at-start .row-start .ensures in
+    rw (in-loop .before .loop2 .inv .2 .long)
+    (start-in size16 _ _ _ (in-loop .loop2-test .taken) (row-lt in-loop) found)
 
 row-at-requires-2 : tie.Need-row-at-requires-2 Inv-loop2 μ-loop2 Inv-loop μ-loop
 row-at-requires-2 c κs = row-room (c .before .before .before .before .before .before)
@@ -95,7 +97,8 @@ loop2-again c =
     let row = at-sub .wrapping-sub .ensures ∙ ap₂ (subOf t16) (at-sub .before .row-at .ensures ∙ found) (inv .1) ∙ differ-row size16 input base (o * 8 + i) hr (start .pre .1 .0) in (
       omega arith,
       c .row-at2 .ensures ∙ found ∙ sym (before-later t16 input base (o * 8 + i)) ∙ ap (rowBefore t16 input base) (add-assoc (o * 8) i 1),
-      laid-put size16 _ _ _ taken hr (at-start .row-start .ensures) (inv .2) row (c .before .before .before .put-at .ensures),
+      laid-put size16 _ _ _ taken hr (at-start .row-start .ensures) (inv .2) row
+          (c .before .before .before .put-at .ensures),
     )
 
 add-o : tie.Need-add-o Inv-loop2 μ-loop2 Inv-loop μ-loop

@@ -1,5 +1,5 @@
--- `deltas::t64::copy_raised` meets its contract. The loop's invariant: the first r rows hold their values, raised by the reference, and row r
--- starts at `start`.
+-- `deltas::t64::copy_raised` meets its contract. The loop's invariant: the first r rows hold their values, raised by
+-- the reference, and row r starts at `start`.
 -- Assumes nothing.
 use mathlib.Core.Path.{ap₂, _∙_}
 use Prim.Native.Nat.{_-_, _≤_}
@@ -10,7 +10,8 @@ use Rattle.lists.specs.Numbers.{plus, Elements}
 use Rattle.places.specs.Sizes.{t64}
 use Rattle.places.proofs.Places.{size64}
 use Rattle.rows.specs.Rows.{addOf}
-use Rattle.rows.proofs.Blocks.{Laid, laid-none, laid-next, laid-all, Starts, starts-first, starts-at, starts-room, starts-next}
+use Rattle.rows.proofs.Blocks.{Laid, laid-none, laid-next, laid-all}
+use Rattle.rows.proofs.Blocks.{Starts, starts-first, starts-at, starts-room, starts-next}
 use Rattle.packing.specs.Packed.{valueAt}
 use Rattle.packing.proofs.Walks.{copied-row}
 use Rattle.deltas.specs.Deltas.{unforPackOf}

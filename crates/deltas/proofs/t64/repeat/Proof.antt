@@ -1,4 +1,5 @@
--- `deltas::t64::repeat` meets its contract. The loop's invariant: the places before a, which are whole rows, hold the row again and again.
+-- `deltas::t64::repeat` meets its contract. The loop's invariant: the places before a, which are whole rows, hold the
+-- row again and again.
 -- Assumes nothing.
 use mathlib.Core.Path.{_≡_, refl, sym, ap, _∙_}
 use Prim.Native.Nat.{_+_, _-_, _%_, _≤_, zero-le}
@@ -14,7 +15,8 @@ use Rattle.deltas.proofs.t64.repeat.Statement.{statement}
 use Rattle.deltas.proofs.t64.repeat.Tie as tie
 
 abbrev Inv-loop : tie.InvT-loop
-Inv-loop row values₀ a₀ values a = (a ≤ 1024) × (a % lanes t64 ≡ 0) × Written 0 a (λ p. getD row (lane t64 p) 0) values₀ values
+Inv-loop row values₀ a₀ values a =
+    (a ≤ 1024) × (a % lanes t64 ≡ 0) × Written 0 a (λ p. getD row (lane t64 p) 0) values₀ values
 
 abbrev μ-loop : tie.MeasureT-loop
 μ-loop row values₀ a₀ values a = 1024 - a
@@ -40,11 +42,15 @@ loop-again c =
     let a = at-loop .loop .a in
     let long : length row ≡ lanes t64 = search needs in
     let again : row ≡ tab (lanes t64) (λ l. getD row ((a + l) % lanes t64) 0) =
-    sym (tab-getD row 0 (lanes t64) long) ∙ tab-ext (lanes t64) _ _ 0 (λ l hl. ap (λ n. getD row n 0) (omega arith)) in (
+    sym (tab-getD row 0 (lanes t64) long)
+    ∙ tab-ext (lanes t64) _ _ 0 (λ l hl. ap (λ n. getD row n 0) (omega arith)) in (
       omega arith,
       omega arith,
       written-run written a (sym (zero-add a))
-          (record { room = omega (arith, written-length written); is = c .before .before .put-at .ensures ∙ ap (λ x. over a x (at-loop .loop .values)) again }),
+          (record {
+            room = omega (arith, written-length written);
+            is = c .before .before .put-at .ensures ∙ ap (λ x. over a x (at-loop .loop .values)) again;
+          }),
     )
 
 same-length : tie.Need-same-length Inv-loop μ-loop

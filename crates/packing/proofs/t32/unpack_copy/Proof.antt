@@ -1,7 +1,8 @@
 -- Written by tools/sizes from the text of size 64: edit that one, and run tools/sizes.
--- `packing::t32::unpack_copy` meets its contract. The loop's invariant: the first r rows hold their values, and row r starts at `start`.
+-- `packing::t32::unpack_copy` meets its contract. The loop's invariant: the first r rows hold their values, and row r
+-- starts at `start`.
 -- Assumes nothing.
-use mathlib.Core.Path.{_≡_, _∙_}
+use mathlib.Core.Path.{_∙_}
 use Prim.Native.Nat.{_-_, _≤_}
 use native.Mathlib.Omega.{arith}
 use denote.Ref.{now}
@@ -9,14 +10,16 @@ use borrow.Author.Needs.{needs}
 use Rattle.lists.specs.Numbers.{Elements}
 use Rattle.places.specs.Sizes.{t32}
 use Rattle.places.proofs.Places.{size32}
-use Rattle.rows.proofs.Blocks.{Laid, laid-none, laid-next, laid-all, Starts, starts-first, starts-at, starts-room, starts-next}
+use Rattle.rows.proofs.Blocks.{Laid, laid-none, laid-next, laid-all}
+use Rattle.rows.proofs.Blocks.{Starts, starts-first, starts-at, starts-room, starts-next}
 use Rattle.packing.specs.Packed.{valueAt, unpackOf}
 use Rattle.packing.proofs.Walks.{copied-row}
 use Rattle.packing.proofs.t32.unpack_copy.Statement.{statement}
 use Rattle.packing.proofs.t32.unpack_copy.Tie as tie
 
 abbrev Inv-loop : tie.InvT-loop
-Inv-loop packed values₀ start₀ r₀ values start r = (r ≤ t32) × Starts r start × Laid t32 r (valueAt t32 t32 packed) values
+Inv-loop packed values₀ start₀ r₀ values start r =
+    (r ≤ t32) × Starts r start × Laid t32 r (valueAt t32 t32 packed) values
 
 abbrev μ-loop : tie.MeasureT-loop
 μ-loop packed values₀ start₀ r₀ values start r = t32 - r
@@ -53,11 +56,11 @@ loop-again c =
     let packed = now (known .before .args .packed) in
     let small : Elements t32 packed = λ i. omega (arith, known .shared-slice-known .given i) in
     let inv = in-loop .before .loop .inv in
-    let hr = in-loop .loop-test .taken in (
+    let hr = in-loop .loop-test .taken in
+    let row = at-row .row-at .ensures ∙ copied-row size32 _ packed small hr in (
       omega arith,
       starts-next size32 hr (inv .1) (c .next-start .ensures),
-      laid-next size32 hr (inv .2) (starts-at size32 hr (inv .1)) (at-row .row-at .ensures ∙ copied-row size32 _ packed small hr)
-          (c .before .before .before .put-at .ensures),
+      laid-next size32 hr (inv .2) (starts-at size32 hr (inv .1)) row (c .before .before .before .put-at .ensures),
     )
 
 same-length : tie.Need-same-length Inv-loop μ-loop

@@ -15,7 +15,8 @@ use Rattle.places.proofs.Places.{size64}
 use Rattle.rows.specs.Rows.{shrOf, orShlOf}
 use Rattle.rows.proofs.Blocks.{Laid, laid-none, laid-put, laid-all, start-in}
 use Rattle.packing.specs.Packed.{valueAt, unpackOf}
-use Rattle.packing.proofs.Walks.{At, at-first, at-lt, at-room, at-room-two, Read, read-within, read-full, read-over}
+use Rattle.packing.proofs.Walks.{At, at-first, at-lt, at-room, at-room-two}
+use Rattle.packing.proofs.Walks.{Read, read-within, read-full, read-over}
 use Rattle.packing.proofs.t64.unpack_split.Statement.{statement}
 use Rattle.packing.proofs.t64.unpack_split.Tie as tie
 
@@ -85,7 +86,9 @@ mask-requires c κs = search needs
 put-at-requires : tie.Need-put-at-requires Inv-loop2 μ-loop2 Inv-loop μ-loop
 put-at-requires c κs =
     let in-loop = c .before .before .before .before .before .before in
-    rw (in-loop .before .loop2 .inv .2 .long) (start-in size64 _ _ _ (in-loop .loop2-test .taken) (row-lt in-loop) (c .before .row-start .ensures))
+    let found = c .before .row-start .ensures in
+    rw (in-loop .before .loop2 .inv .2 .long)
+    (start-in size64 _ _ _ (in-loop .loop2-test .taken) (row-lt in-loop) found)
 
 add-i : tie.Need-add-i Inv-loop2 μ-loop2 Inv-loop μ-loop
 add-i c = omega arith
@@ -128,7 +131,8 @@ loop2-again c =
     let next = add-assoc (in-loop .before .before .before .loop .o * 8) (in-loop .before .loop2 .i) 1 in (
       omega arith,
       rw next at (read .next),
-      laid-put size64 _ _ _ (in-loop .loop2-test .taken) (row-lt in-loop) (at-start .row-start .ensures) (in-loop .before .loop2 .inv .2)
+      laid-put size64 _ _ _ (in-loop .loop2-test .taken) (row-lt in-loop) (at-start .row-start .ensures)
+          (in-loop .before .loop2 .inv .2)
           (c .before .before .before .mask .ensures ∙ read .cut)
           (c .before .before .put-at .ensures),
     )
