@@ -23,7 +23,7 @@ use Rattle.places.proofs.Places.{size64}
 use Rattle.packing.specs.Packed.{packOf, unpackOf, valueAt}
 use Rattle.packing.proofs.Rounds.{length-pack, pack-fits, length-unpack, unpack-at, unpack-fits, restores}
 use Rattle.deltas.specs.Deltas.{deltaOf, frameOf, forPackOf, unforPackOf, undeltaPackOf}
-use Rattle.deltas.proofs.Demand3.{delta-undelta, undelta-pack-is, frame-restores, delta-restores}
+use Rattle.deltas.proofs.Restores.{delta-undelta, undelta-pack-is, frame-restores, delta-restores}
 use Rattle.deltas.proofs.Lanes.{minus-lt, minus-plus, elements-unpack, length-delta, length-for-pack}
 use Rattle.little.specs.Little.{numbersOf, allBytes}
 use Rattle.little.proofs.Bytes.{length-all, all-append, numbers-all}

@@ -1,5 +1,5 @@
 pub mod Calls
 pub mod Files
-pub mod Item14
+pub mod OursExactly
 pub mod Same
 pub mod Written

@@ -16,7 +16,7 @@ use Rattle.lists.proofs.Passing.{map-both}
 use Rattle.contents.specs.Contents.{count}
 use Rattle.files.specs.Files.{blockIn, rowAt}
 use Rattle.compare.specs.Changes.{isSame, differing, changeAt, changesIn, rowsInBoth, isSameRow, changeOf, changesOf, changesTo}
-use Rattle.compare.specs.Plain.{InBoth, noChange, Lists}
+use Rattle.compare.specs.Listed.{InBoth, noChange, Lists}
 
 -- What a rule makes of the entry at a place that is there.
 getD-map-in : {A B : Type 0} (f : A → B) (list : List A) (k : ℕ) (d : A) (e : B) → k < length list → getD (map f list) k e ≡ f (getD list k d)

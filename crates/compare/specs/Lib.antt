@@ -1,4 +1,4 @@
 pub mod Changes
 pub mod InnerSame
-pub mod Plain
+pub mod Listed
 pub mod Ranges

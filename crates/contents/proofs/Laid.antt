@@ -11,7 +11,7 @@ use Rattle.lists.specs.Pick.{pick, both}
 use Rattle.lists.proofs.Tests.{both-true, false-true}
 use Rattle.contents.specs.declared.Entry.{Entry}
 use Rattle.contents.specs.Contents.{isPacked, isRuns, isOfKind, isLaidOut, isTakenIn}
-use Rattle.contents.specs.Plain.{RunLength, LaidOut, TakenIn}
+use Rattle.contents.specs.Reasons.{RunLength, LaidOut, TakenIn}
 
 module _ (e : Entry) (good : isLaidOut e ≡ true) where
   of-kind : isOfKind e ≡ true

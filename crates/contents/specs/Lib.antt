@@ -1,4 +1,4 @@
 pub mod Answers
 pub mod Bytes
 pub mod Contents
-pub mod Plain
+pub mod Reasons

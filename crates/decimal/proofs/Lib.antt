@@ -1,3 +1,3 @@
 pub mod Digits
-pub mod Reasons
+pub mod Exactly
 pub mod Texts

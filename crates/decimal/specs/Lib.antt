@@ -1,3 +1,3 @@
 pub mod Calls
 pub mod Decimal
-pub mod Plain
+pub mod Reasons

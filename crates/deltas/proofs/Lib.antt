@@ -1,4 +1,4 @@
 pub mod Answers
-pub mod Demand3
+pub mod Restores
 pub mod Lanes
 pub mod Walks

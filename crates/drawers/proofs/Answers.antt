@@ -12,7 +12,7 @@ use Rattle.places.specs.declared.Answer.{Answer}
 use Rattle.places.specs.declared.Answer.the-variants.{Done, Width, Block, Packed}
 use Rattle.places.specs.Sizes.{lanes}
 use Rattle.drawers.specs.Drawers.{drawerAnswer}
-use Rattle.drawers.specs.Plain.{Fits, DrawerReason, too-wide, no-blocks, no-packed, fits}
+use Rattle.drawers.specs.Reasons.{Fits, DrawerReason, too-wide, no-blocks, no-packed, fits}
 
 module _ (t w m : ℕ) (values packed : List ℕ) where
   pub bad-width : t < w → drawerAnswer t w m values packed ≡ Width

@@ -27,7 +27,7 @@ use Rattle.deltas.specs.Deltas.{forPackOf}
 use Rattle.deltas.proofs.Answers.{for-pack-leaves}
 use Rattle.deltas.proofs.Lanes.{length-for-pack}
 use Rattle.drawers.specs.Drawers.{drawerAnswer, eachPart, unpackBlocksOf, forPackBlocksOf, unpackBlocksLeaves, forPackBlocksLeaves}
-use Rattle.drawers.specs.Plain.{Fits}
+use Rattle.drawers.specs.Reasons.{Fits}
 use Rattle.drawers.proofs.Answers.{bad-width, bad-blocks, bad-packed, good-drawer, drawer-taken}
 use Rattle.drawers.proofs.Parts.{part-within, cut-all, each-part, each-split}
 

@@ -5,7 +5,7 @@ pub mod Held
 pub mod Lookups
 pub mod Others
 pub mod Ranges
-pub mod Reasons
+pub mod Exactly
 pub mod Recalled
 pub mod Rows
 pub mod Steps

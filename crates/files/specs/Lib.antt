@@ -3,5 +3,5 @@ pub mod Files
 pub mod Froms
 pub mod InnerLookups
 pub mod InnerRuns
-pub mod Plain
+pub mod Reasons
 pub mod Rows

@@ -35,7 +35,7 @@ use Rattle.access.specs.Counts.{wordsRead, countAt}
 use Rattle.access.proofs.Answers.{single-good, index-in}
 use Rattle.deltas.specs.Calls.{deltaLeaves}
 use Rattle.deltas.proofs.Answers.{for-pack-leaves, unfor-pack-leaves, delta-leaves}
-use Rattle.deltas.proofs.Demand3.{frame-back}
+use Rattle.deltas.proofs.Restores.{frame-back}
 use Rattle.deltas.proofs.Lanes.{length-for-pack, delta-first, delta-next}
 use Rattle.runs.specs.Calls.{decodeTakes, decodeLeaves}
 use Rattle.runs.specs.Runs.{decodeOf}

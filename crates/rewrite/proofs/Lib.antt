@@ -1,3 +1,3 @@
 pub mod Calls
-pub mod Item11
+pub mod FileRewritten
 pub mod Rows

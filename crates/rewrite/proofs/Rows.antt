@@ -18,7 +18,7 @@ use Rattle.bodywise.proofs.Told.{whole}
 use Rattle.files.proofs.Froms.{from-block}
 use Rattle.files.proofs.Ranges.{contents-right, runs-good, file-runs, file-block}
 use Rattle.files.proofs.Rows.{rows-count, rows-block}
-use Rattle.writer.specs.Plain.{Blocks}
+use Rattle.writer.specs.Reasons.{Blocks}
 use Rattle.writer.specs.Writer.{blockCount, blockAt, bodiesFor, fileOf}
 use Rattle.writer.proofs.Laying.{bodies-longer, length-file}
 use Rattle.rewrite.specs.Rewrite.{newFile}

@@ -2,7 +2,7 @@ pub mod Answers
 pub mod Blocks
 pub mod Listing
 pub mod OneBlock
-pub mod Reasons
+pub mod Exactly
 pub mod Searched
 pub mod Theorems
 pub mod Unopened

@@ -29,7 +29,7 @@ use Rattle.bodywise.proofs.Told.{whole}
 use Rattle.files.proofs.Ranges.{contents-right, file-runs, file-spans}
 use Rattle.search.specs.declared.Found.{Found}
 use Rattle.search.specs.declared.Found.the-variants.{Rows, Refused}
-use Rattle.search.specs.Plain.{Common, Opened, RowBetween}
+use Rattle.search.specs.Reasons.{Common, Opened, RowBetween}
 use Rattle.search.specs.Search.{between, meets, opens, opened, listed, found, searchTests, foundOf, searchLeaves, answerOf, rowsFound, blocksOpened}
 use Rattle.search.proofs.Answers.{search-refused, search-done}
 use Rattle.search.proofs.Blocks.{in-long}

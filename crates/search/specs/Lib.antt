@@ -1,5 +1,5 @@
 pub mod InnerBlocks
-pub mod Plain
+pub mod Reasons
 pub mod Search
 pub mod Steps
 pub mod Unopened

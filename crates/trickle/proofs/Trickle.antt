@@ -27,7 +27,7 @@ use Rattle.trickle.specs.declared.State.{State}
 use Rattle.trickle.specs.declared.TrickleAnswer.{TrickleAnswer}
 use Rattle.trickle.specs.declared.TrickleAnswer.the-variants.{Done, Width, Early}
 use Rattle.trickle.specs.Answers.{trickleAnswer, numberOf, left}
-use Rattle.trickle.specs.Plain.{Reason, no-block, early, whole, wide, overfull}
+use Rattle.trickle.specs.Reasons.{Reason, no-block, early, whole, wide, overfull}
 use Rattle.trickle.specs.Trickle.{bodySize, canBe, widthOf, countOf, heldOf, countsAs, startAnswer, startedOf, takenOf, stateAfter, fedOf, askTests, askAnswer, wordsOf, valuesOf, askLeaves, fedAll, bytesOfAll, Same}
 use Rattle.trickle.proofs.Answers.{start-wide, start-done, ask-block, ask-early, ask-done, left-refused}
 use Rattle.trickle.proofs.Feeds.{after-nothing, after-held, after-width, all-taken, all-after, all-long}

@@ -1,3 +1,3 @@
 pub mod Answers
-pub mod Plain
+pub mod Reasons
 pub mod Trickle

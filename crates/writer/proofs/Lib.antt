@@ -1,5 +1,5 @@
 pub mod Calls
-pub mod Item3
+pub mod FileWritten
 pub mod Laying
 pub mod Outcomes
 pub mod ReadBack

@@ -17,7 +17,7 @@ use Rattle.rows.specs.Rows.{shrOf, orShlOf}
 use Rattle.rows.proofs.Blocks.{start-at, start-in}
 use Rattle.packing.specs.Packed.{unpackOf}
 use Rattle.packing.proofs.Walks.{At, at-first, at-lt, at-room, at-room-two, Read, read-within, read-full, read-over}
-use Rattle.deltas.proofs.Demand3.{undelta-pack-is}
+use Rattle.deltas.proofs.Restores.{undelta-pack-is}
 use Rattle.deltas.proofs.Walks.{Summing, summing-none, summing-next, summing-all, unpacked-row}
 use Rattle.deltas.proofs.t16.unpack_sums.Statement.{statement}
 use Rattle.deltas.proofs.t16.unpack_sums.Tie as tie

@@ -20,16 +20,16 @@ use Rattle.contents.proofs.Answers.{number-done}
 use Rattle.candidates.specs.Candidates.{chosen}
 use Rattle.candidates.proofs.Choice.{chosen-kind}
 use Rattle.files.specs.Files.{blockIn, rowsOf, fileTests}
-use Rattle.files.specs.Plain.{Reason}
-use Rattle.files.proofs.Reasons.{reason-gives, file-exactly}
+use Rattle.files.specs.Reasons.{Reason}
+use Rattle.files.proofs.Exactly.{reason-gives, file-exactly}
 use Rattle.files.proofs.Rows as Rows
-use Rattle.writer.specs.Plain.{Blocks}
+use Rattle.writer.specs.Reasons.{Blocks}
 use Rattle.writer.specs.Writer.{fileOf, givenBy, leftBy, writeTests, writtenOf, fileLeaves}
 use Rattle.writer.proofs.Calls.{blocks-short, blocks-room}
-use Rattle.writer.proofs.Item3 as Item3
+use Rattle.writer.proofs.FileWritten as FileWritten
 use Rattle.writer.proofs.Outcomes.{Outcome, outcome}
 use Rattle.writer.proofs.ReadBack.{edition-is, count-is, entry-read, file-accepted, rows-read}
-use Rattle.rewrite.specs.Plain.{RewriteReason, of-file, short-output, room-there}
+use Rattle.rewrite.specs.Reasons.{RewriteReason, of-file, short-output, room-there}
 use Rattle.rewrite.specs.Rewrite.{newFile, rewriteTests, rewrittenOf, rewriteLeaves}
 use Rattle.rewrite.proofs.Calls.{bad-file, new-short, new-room}
 use Rattle.rewrite.proofs.Rows.{few, rows-long, rows-whole, block-at}
@@ -80,9 +80,9 @@ module _ (l output : List ℕ) where
       same =
           elim (decLe (length (newFile l)) (length output)) [
             | yes room ↦ new-room l output done room
-                ∙ sym (blocks-room (rowsOf l) output (Item3.remainder-none (rowsOf l) whole) (Item3.numbers-few (rowsOf l) whole) room)
+                ∙ sym (blocks-room (rowsOf l) output (FileWritten.remainder-none (rowsOf l) whole) (FileWritten.numbers-few (rowsOf l) whole) room)
             | no short ↦ new-short l output done (omega arith)
-                ∙ sym (blocks-short (rowsOf l) output (Item3.remainder-none (rowsOf l) whole) (Item3.numbers-few (rowsOf l) whole) (omega arith))
+                ∙ sym (blocks-short (rowsOf l) output (FileWritten.remainder-none (rowsOf l) whole) (FileWritten.numbers-few (rowsOf l) whole) (omega arith))
           ]
 
 -- A file that the writer wrote is its own new file: it is rewritten as it is, byte for byte.
@@ -122,8 +122,8 @@ module _ (l : List ℕ) (bytes : Elements 8 l) (done : fileAnswer (fileTests l) 
 
 -- ---- the worked files of Item 1, which are of edition 1
 
-pub rewrites-none : newFile Rows.noBlocks ≡ Item3.noBlocks
-rewrites-none = ap fileOf Rows.worked-none ∙ Item3.writes-none
+pub rewrites-none : newFile Rows.noBlocks ≡ FileWritten.noBlocks
+rewrites-none = ap fileOf Rows.worked-none ∙ FileWritten.writes-none
 
-pub rewrites-sevens : newFile Rows.oneOfSevens ≡ Item3.oneOfSevens
-rewrites-sevens = ap fileOf (is-tab (rowsOf Rows.oneOfSevens) 1024 (λ _. 7) 0 (Rows.worked-sevens .0) (Rows.worked-sevens .1)) ∙ Item3.writes-sevens
+pub rewrites-sevens : newFile Rows.oneOfSevens ≡ FileWritten.oneOfSevens
+rewrites-sevens = ap fileOf (is-tab (rowsOf Rows.oneOfSevens) 1024 (λ _. 7) 0 (Rows.worked-sevens .0) (Rows.worked-sevens .1)) ∙ FileWritten.writes-sevens

@@ -7,7 +7,7 @@ use Prim.Native.Nat.{ℕ, _≤_, _<_}
 use lib.ListN.{length}
 use Rattle.contents.specs.declared.FileAnswer.{FileAnswer}
 use Rattle.contents.specs.declared.FileAnswer.the-variants.{Done, Room}
-use Rattle.files.specs.Plain.{Reason}
+use Rattle.files.specs.Reasons.{Reason}
 use Rattle.rewrite.specs.Rewrite.{newFile}
 
 -- The call has this reason for its answer.

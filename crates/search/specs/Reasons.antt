@@ -12,7 +12,7 @@ use Rattle.contents.specs.declared.Range.{Range}
 use Rattle.contents.specs.Answers.{numberOf}
 use Rattle.contents.specs.Contents.{edition, count, entryOf, rangeOf}
 use Rattle.files.specs.Files.{bodyOf, rowCount, rowAt}
-use Rattle.files.specs.Plain.{GoodRuns, TrueRange, Right, Reason}
+use Rattle.files.specs.Reasons.{GoodRuns, TrueRange, Right, Reason}
 use Rattle.search.specs.Search.{found}
 
 -- A range and the bounds have a number in common.

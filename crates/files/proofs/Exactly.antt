@@ -31,9 +31,9 @@ use Rattle.contents.proofs.Laid.{laid-plain, taken-plain, both-is, leb-is}
 use Rattle.bodies.specs.Bodies.{hasGoodRuns, valueCount}
 use Rattle.bodies.specs.Ranges.{isRange}
 use Rattle.files.specs.Files.{bodyOf, blockIn, hasTrueRange, badRuns, badRange, rowCount, fileTests, blockTests, rowTests}
-use Rattle.files.specs.Plain.{GoodRuns, TrueRange, Headed, EntryRight, RightTo, GoodTo, TrueTo, Right, Reason, BlockReason, RowReason}
-use Rattle.files.specs.Plain.{short-head, other-edition, short-entries, bad-entry, short-bodies, left-over, bad-runs, bad-range, none}
-use Rattle.files.specs.Plain.{bad-output, of-file-block, no-block, block-there, of-file-row, no-row, row-there}
+use Rattle.files.specs.Reasons.{GoodRuns, TrueRange, Headed, EntryRight, RightTo, GoodTo, TrueTo, Right, Reason, BlockReason, RowReason}
+use Rattle.files.specs.Reasons.{short-head, other-edition, short-entries, bad-entry, short-bodies, left-over, bad-runs, bad-range, none}
+use Rattle.files.specs.Reasons.{bad-output, of-file-block, no-block, block-there, of-file-row, no-row, row-there}
 use Rattle.files.proofs.Files.{goodIn}
 use Rattle.files.proofs.Ranges.{ranges-done, range-at}
 

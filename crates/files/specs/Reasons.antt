@@ -12,7 +12,7 @@ use Rattle.contents.specs.declared.Entry.{Entry}
 use Rattle.contents.specs.declared.FileAnswer.{FileAnswer}
 use Rattle.contents.specs.declared.FileAnswer.the-variants.{Done, Block, Cut, Edition, BadEntry, Over, Beyond, Runs, Range}
 use Rattle.contents.specs.Contents.{edition, count, contentsSize, entryOf, rangeOf, bodyStart}
-use Rattle.contents.specs.Plain.{LaidOut, TakenIn}
+use Rattle.contents.specs.Reasons.{LaidOut, TakenIn}
 use Rattle.files.specs.Files.{bodyOf, blockIn, rowCount}
 
 -- In a body of runs every run index is below the number of run values.

@@ -20,10 +20,10 @@ use Rattle.contents.specs.Answers.{FileTest, fileAnswer, numberOf}
 use Rattle.contents.specs.Contents.{count, entryOf, contentsTests}
 use Rattle.contents.proofs.Answers.{passed, stopped, none-left, in-front-done, in-front-refused, number-done}
 use Rattle.files.specs.Files.{bodyOf, badRuns, badRange}
-use Rattle.files.specs.Plain.{GoodRuns, TrueRange, Right, Reason}
-use Rattle.files.proofs.Reasons.{lowest-found, none-found, before-holds, at-fails, all-hold, good-plain, range-plain, reason-gives, file-exactly, right-done, done-right}
+use Rattle.files.specs.Reasons.{GoodRuns, TrueRange, Right, Reason}
+use Rattle.files.proofs.Exactly.{lowest-found, none-found, before-holds, at-fails, all-hold, good-plain, range-plain, reason-gives, file-exactly, right-done, done-right}
 use Rattle.search.specs.InnerBlocks.{asked}
-use Rattle.search.specs.Plain.{Opened, OpenedGood, OpenedTrue, SearchReason, of-contents, opened-runs, opened-range, short-room, rows-there}
+use Rattle.search.specs.Reasons.{Opened, OpenedGood, OpenedTrue, SearchReason, of-contents, opened-runs, opened-range, short-room, rows-there}
 use Rattle.search.specs.Search.{opens, found, openedTests, searchTests}
 use Rattle.search.proofs.Answers as Answers
 use Rattle.search.proofs.Theorems.{opens-exactly}

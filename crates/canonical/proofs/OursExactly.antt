@@ -24,19 +24,19 @@ use Rattle.contents.proofs.Answers.{number-done}
 use Rattle.bodies.specs.Ranges.{trueRange, isRange}
 use Rattle.candidates.specs.Candidates.{chosen, bodyFor}
 use Rattle.files.specs.Files.{bodyOf, blockIn, rowsOf, hasTrueRange, fileTests}
-use Rattle.files.specs.Plain.{Reason}
+use Rattle.files.specs.Reasons.{Reason}
 use Rattle.bodywise.proofs.Told.{whole}
 use Rattle.files.proofs.Ranges.{ranges-true}
-use Rattle.files.proofs.Reasons.{lowest-found, none-found, before-holds, at-fails, all-hold, reason-gives, file-exactly}
+use Rattle.files.proofs.Exactly.{lowest-found, none-found, before-holds, at-fails, all-hold, reason-gives, file-exactly}
 use Rattle.files.proofs.Rows.{rows-fit}
-use Rattle.writer.specs.Plain.{Blocks}
+use Rattle.writer.specs.Reasons.{Blocks}
 use Rattle.writer.specs.Writer.{fileOf}
 use Rattle.writer.proofs.ReadBack.{edition-is, range-read, body-read, file-accepted}
 use Rattle.rewrite.specs.Rewrite.{newFile}
-use Rattle.rewrite.proofs.Item11.{rewrite-same, rewrite-twice, new-accepted, new-edition, new-count, new-entry}
+use Rattle.rewrite.proofs.FileRewritten.{rewrite-same, rewrite-twice, new-accepted, new-edition, new-count, new-entry}
 use Rattle.rewrite.proofs.Rows.{right, few, rows-long, rows-whole, block-at}
 use Rattle.canonical.specs.Canonical.{isSameEntry, isSame, isOurs, foreign, canonicalTests}
-use Rattle.canonical.specs.Plain.{Ours, CanonicalReason, of-file, first-edition, a-foreign, as-ours}
+use Rattle.canonical.specs.Reasons.{Ours, CanonicalReason, of-file, first-edition, a-foreign, as-ours}
 use Rattle.canonical.proofs.Calls.{not-read, not-second, is-foreign, none-foreign}
 use Rattle.canonical.proofs.Files.{alike-same}
 use Rattle.canonical.proofs.Same.{entry-same, list-same}

@@ -10,7 +10,7 @@ use Rattle.contents.specs.declared.FileAnswer.the-variants.{Done, Edition, Fore
 use Rattle.contents.specs.Contents.{edition, count, entryOf}
 use Rattle.candidates.specs.Candidates.{chosen, bodyFor}
 use Rattle.files.specs.Files.{bodyOf, blockIn, rowsOf}
-use Rattle.files.specs.Plain.{Reason}
+use Rattle.files.specs.Reasons.{Reason}
 use Rattle.writer.specs.Writer.{fileOf}
 
 -- The entry and the body of block i are the writer's for that block's values.

@@ -17,7 +17,7 @@ use Rattle.decimal.specs.declared.Parsed.{Parsed}
 use Rattle.decimal.specs.declared.Parsed.the-variants.{Number, Empty, Other, Large}
 use Rattle.decimal.specs.Decimal.{digitOf, digitsOf, valueFrom, valueOf}
 use Rattle.decimal.specs.Calls.{parsedOf}
-use Rattle.decimal.specs.Plain.{IsDigit, Digits, sumOf, Reason}
+use Rattle.decimal.specs.Reasons.{IsDigit, Digits, sumOf, Reason}
 use Rattle.decimal.proofs.Texts.{positive, digits-length, digit-at}
 
 -- ---- one byte

@@ -36,11 +36,11 @@ use Rattle.candidates.specs.Restored.{candidate}
 use Rattle.candidates.proofs.Choice.{chosen-shortest}
 use Rattle.candidates.proofs.Least.{no-narrower}
 use Rattle.files.specs.Files.{blockIn, rowAt, rowsOf, fileTests, blockTests, blockLeaves}
-use Rattle.files.specs.Plain.{Reason, block-there, no-block, row-there, no-row}
+use Rattle.files.specs.Reasons.{Reason, block-there, no-block, row-there, no-row}
 use Rattle.files.specs.Rows.{rowOf, valueOf, answerOf as rowAnswer}
-use Rattle.files.proofs.Reasons.{file-exactly, block-exactly, row-exactly}
+use Rattle.files.proofs.Exactly.{file-exactly, block-exactly, row-exactly}
 use Rattle.files.proofs.Rows.{row-place, row-answers, row-values}
-use Rattle.writer.specs.Plain.{Blocks, WriteReason, no-blocks, short-output, room-there}
+use Rattle.writer.specs.Reasons.{Blocks, WriteReason, no-blocks, short-output, room-there}
 use Rattle.writer.specs.Writer.{blockCount, blockAt, entriesFor, bodiesFor, fileOf, writeTests, writtenOf, fileLeaves, lengthOf}
 use Rattle.writer.proofs.Calls.{not-whole, over-many, blocks-short, blocks-room}
 use Rattle.writer.proofs.Laying.{file-short}
