@@ -22,7 +22,7 @@ use Rattle.bodies.specs.Bodies as Bodies
 use Rattle.bodies.specs.Bodies.{blockOf, hasGoodRuns}
 use Rattle.bodies.specs.Ranges.{isRange}
 use Rattle.bodywise.specs.InnerPlaced.{inBlock}
-use Rattle.bodywise.specs.Steps.{entryTest, hasTrueRange, rangeTest, bodyTests, blockTests, blockLeaves, rangeTests, stepTests, stepOf}
+use Rattle.bodywise.specs.Steps.{entryTest, hasTrueRange, rangeTest, bodyTests, heldTests, heldLeaves, rangeTests, stepTests, stepOf}
 
 -- ---- the place of a refusal of one body
 
@@ -105,24 +105,24 @@ module _ (front : List ℕ) (i : ℕ) where
 
     module _ (block : List ℕ) where
       -- A refusal leaves it as it was,
-      pub block-refused : {a : FileAnswer} → fileAnswer (blockTests front i body block) ≡ a → (numberOf a ≡ 0 → ⊥)
-          → (a ≡ fileAnswer (blockTests front i body block)) × (block ≡ blockLeaves front i body block)
-      unfolding blockLeaves
+      pub block-refused : {a : FileAnswer} → fileAnswer (heldTests front i body block) ≡ a → (numberOf a ≡ 0 → ⊥)
+          → (a ≡ fileAnswer (heldTests front i body block)) × (block ≡ heldLeaves front i body block)
+      unfolding heldLeaves
       block-refused {a} e n = (
         sym e,
-        sym (left-refused (fileAnswer (blockTests front i body block)) (blockOf (entryOr front i) body) block (λ z. n (sym (ap numberOf e) ∙ z))),
+        sym (left-refused (fileAnswer (heldTests front i body block)) (blockOf (entryOr front i) body) block (λ z. n (sym (ap numberOf e) ∙ z))),
       )
 
       -- and behind an entry that is right it is laid down as that of one body is.
       pub block-placed : length block ≡ 1024 → hasRightEntry front i ≡ true
-          → inBlock i (fileAnswer (Bodies.blockTests (entryOr front i) body block)) ≡ fileAnswer (blockTests front i body block)
+          → inBlock i (fileAnswer (Bodies.blockTests (entryOr front i) body block)) ≡ fileAnswer (heldTests front i body block)
       block-placed long right =
           let t = eq-eqb (length block) 1024 long in
           ap (inBlock i) (passed _ _ t) ∙ body-placed right ∙ sym (passed _ _ t)
 
       pub block-left : length block ≡ 1024 → hasRightEntry front i ≡ true
-          → Bodies.blockLeaves (entryOr front i) body block ≡ blockLeaves front i body block
-      unfolding blockLeaves Bodies.blockLeaves
+          → Bodies.blockLeaves (entryOr front i) body block ≡ heldLeaves front i body block
+      unfolding heldLeaves Bodies.blockLeaves
       block-left long right =
           let a = fileAnswer (Bodies.blockTests (entryOr front i) body block) in
           ap (λ t. pick t (blockOf (entryOr front i) body) block) (sym (placed-same i a) ∙ ap isDone (block-placed long right))

@@ -45,12 +45,12 @@ bodyTests front i body =
     ∷ []
 
 -- Laying block i down tests its output first,
-abbrev pub blockTests : (front : List ℕ) (i : ℕ) (body block : List ℕ) → List FileTest
-blockTests front i body block = (long 1024 block, Block) ∷ bodyTests front i body
+abbrev pub heldTests : (front : List ℕ) (i : ℕ) (body block : List ℕ) → List FileTest
+heldTests front i body block = (long 1024 block, Block) ∷ bodyTests front i body
 
 -- and leaves this there.
-unfoldable pub blockLeaves : (front : List ℕ) (i : ℕ) (body block : List ℕ) → List ℕ
-blockLeaves front i body block = left (fileAnswer (blockTests front i body block)) (blockOf (entryOr front i) body) block
+unfoldable pub heldLeaves : (front : List ℕ) (i : ℕ) (body block : List ℕ) → List ℕ
+heldLeaves front i body block = left (fileAnswer (heldTests front i body block)) (blockOf (entryOr front i) body) block
 
 -- The tests of block i, which was laid down, are that of its entry and that of its range.
 abbrev pub rangeTests : (front : List ℕ) (i : ℕ) (block : List ℕ) → List FileTest

@@ -19,7 +19,7 @@ ghost use Rattle.contents.specs.Contents.{countOr, entryOr};
 ghost use Rattle.bodies.specs.Bodies.{blockOf};
 ghost use Rattle.bodywise.specs.Cursor.{bodyAt, firstBody, nextBody};
 ghost use Rattle.bodywise.specs.InnerPlaced.{inBlock};
-ghost use Rattle.bodywise.specs.Steps.{entryTest, bodyTests, blockTests, blockLeaves, rangeTests, stepOf, frontSize};
+ghost use Rattle.bodywise.specs.Steps.{entryTest, bodyTests, heldTests, heldLeaves, rangeTests, stepOf, frontSize};
 
 // A body of a file: its number, where it begins, and its entry.
 pub struct Body {
@@ -139,9 +139,9 @@ fn in_block(i: usize, answer: FileAnswer) -> FileAnswer
 }
 
 // Lays block i down from its body. The entry has to be right in its edition.
-pub fn block_of(front: &[u8], i: usize, body: &[u8], block: &mut [u64]) -> FileAnswer
-    ensures { λ r. ⌜ r ≡ fileAnswer (blockTests (now (front .entry)) i (now (body .entry)) (now (block .entry))) ⌝ }
-    ensures { λ _. ⌜ now (block .exit) ≡ blockLeaves (now (front .entry)) i (now (body .entry)) (now (block .entry)) ⌝ }
+pub fn held_block(front: &[u8], i: usize, body: &[u8], block: &mut [u64]) -> FileAnswer
+    ensures { λ r. ⌜ r ≡ fileAnswer (heldTests (now (front .entry)) i (now (body .entry)) (now (block .entry))) ⌝ }
+    ensures { λ _. ⌜ now (block .exit) ≡ heldLeaves (now (front .entry)) i (now (body .entry)) (now (block .entry)) ⌝ }
 {
     if block.len() != 1024 {
         return FileAnswer::Block;

@@ -35,7 +35,7 @@ use Rattle.writer.proofs.ReadBack.{edition-is, range-read, body-read, file-acce
 use Rattle.rewrite.specs.Rewrite.{newFile}
 use Rattle.rewrite.proofs.FileRewritten.{rewrite-same, rewrite-twice, new-accepted, new-edition, new-count, new-entry}
 use Rattle.rewrite.proofs.Rows.{right, few, rows-long, rows-whole, block-at}
-use Rattle.canonical.specs.Canonical.{isSameEntry, isSame, isOurs, foreign, canonicalTests}
+use Rattle.canonical.specs.Canonical.{isSameEntry, isSameList, isOurs, foreign, canonicalTests}
 use Rattle.canonical.specs.Reasons.{Ours, CanonicalReason, of-file, first-edition, a-foreign, as-ours}
 use Rattle.canonical.proofs.Calls.{not-read, not-second, is-foreign, none-foreign}
 use Rattle.canonical.proofs.Files.{alike-same}
@@ -47,7 +47,7 @@ pub ours-plain : (l : List ℕ) (i : ℕ) → (isOurs l i ≡ true) ↔ Ours l i
 unfolding isOurs
 ours-plain l i = (
   λ e.
-      let t = both-true (isSameEntry (entryOf l i) (chosen (blockIn l i) .entry)) (isSame (bodyOf l i) (bodyFor (blockIn l i))) e in
+      let t = both-true (isSameEntry (entryOf l i) (chosen (blockIn l i) .entry)) (isSameList (bodyOf l i) (bodyFor (blockIn l i))) e in
       (entry-same (entryOf l i) (chosen (blockIn l i) .entry) .0 (t .0), list-same (bodyOf l i) (bodyFor (blockIn l i)) .0 (t .1)),
   λ o. ap₂ both (entry-same (entryOf l i) (chosen (blockIn l i) .entry) .1 (o .0)) (list-same (bodyOf l i) (bodyFor (blockIn l i)) .1 (o .1)),
 )

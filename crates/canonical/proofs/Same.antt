@@ -10,7 +10,7 @@ use borrow.Author.Tests.{eq-eqb, eqb-true}
 use Rattle.lists.specs.Pick.{both}
 use Rattle.lists.proofs.Tests.{both-true, not-then, false-true}
 use Rattle.contents.specs.declared.Entry.{Entry}
-use Rattle.canonical.specs.Canonical.{isSameEntry, isSame}
+use Rattle.canonical.specs.Canonical.{isSameEntry, isSameList}
 
 pub entry-same : (a b : Entry) → (isSameEntry a b ≡ true) ↔ (a ≡ b)
 entry-same a b = (
@@ -33,22 +33,22 @@ entry-same a b = (
       (ap₂ both (eq-eqb (a .length) (b .length) (ap (λ e. e .length) e)) (eq-eqb (a .reference) (b .reference) (ap (λ e. e .reference) e))))),
 )
 
-same-self : (a : List ℕ) → isSame a a ≡ true
-unfolding isSame
+same-self : (a : List ℕ) → isSameList a a ≡ true
+unfolding isSameList
 same-self [] = refl
 same-self (x ∷ a) = ap₂ both (eq-eqb x x refl) (same-self a)
 
-same-list : (a b : List ℕ) → isSame a b ≡ true → a ≡ b
-unfolding isSame
+same-list : (a b : List ℕ) → isSameList a b ≡ true → a ≡ b
+unfolding isSameList
 same-list [] [] e = refl
 same-list [] (y ∷ b) e = absurd (false-true e)
 same-list (x ∷ a) [] e = absurd (false-true e)
-same-list (x ∷ a) (y ∷ b) e = let t = both-true (eqb x y) (isSame a b) e in ap₂ _∷_ (eqb-true x y (t .0)) (same-list a b (t .1))
+same-list (x ∷ a) (y ∷ b) e = let t = both-true (eqb x y) (isSameList a b) e in ap₂ _∷_ (eqb-true x y (t .0)) (same-list a b (t .1))
 
-pub list-same : (a b : List ℕ) → (isSame a b ≡ true) ↔ (a ≡ b)
-list-same a b = (same-list a b, λ e. ap (isSame a) (sym e) ∙ same-self a)
+pub list-same : (a b : List ℕ) → (isSameList a b ≡ true) ↔ (a ≡ b)
+list-same a b = (same-list a b, λ e. ap (isSameList a) (sym e) ∙ same-self a)
 
 -- An answer that is yes exactly where two lists are the same is that of this test.
-pub same-test : (t : Bool) (a b : List ℕ) → (t ≡ true → a ≡ b) × (a ≡ b → t ≡ true) → t ≡ isSame a b
+pub same-test : (t : Bool) (a b : List ℕ) → (t ≡ true → a ≡ b) × (a ≡ b → t ≡ true) → t ≡ isSameList a b
 same-test true a b e = sym (list-same a b .1 (e .0 refl))
-same-test false a b e = sym (not-then (isSame a b) (λ s. false-true (e .1 (same-list a b s))))
+same-test false a b e = sym (not-then (isSameList a b) (λ s. false-true (e .1 (same-list a b s))))

@@ -22,16 +22,16 @@ isSameEntry a b =
     (both (eqb (a .zero) (b .zero)) (both (eqb (a .length) (b .length)) (eqb (a .reference) (b .reference)))))
 
 -- This test says that two lists are the same.
-unfoldable pub isSame : (a b : List ℕ) → Bool
-isSame [] [] = true
-isSame [] (y ∷ b) = false
-isSame (x ∷ a) [] = false
-isSame (x ∷ a) (y ∷ b) = both (eqb x y) (isSame a b)
+unfoldable pub isSameList : (a b : List ℕ) → Bool
+isSameList [] [] = true
+isSameList [] (y ∷ b) = false
+isSameList (x ∷ a) [] = false
+isSameList (x ∷ a) (y ∷ b) = both (eqb x y) (isSameList a b)
 
 -- Block i is as our writer would write it where its entry and its body are those that are chosen for its values. In a file that the reader accepts
 -- its range is the true one, as the writer's is.
 unfoldable pub isOurs : (l : List ℕ) (i : ℕ) → Bool
-isOurs l i = both (isSameEntry (entryOf l i) (chosen (blockIn l i) .entry)) (isSame (bodyOf l i) (bodyFor (blockIn l i)))
+isOurs l i = both (isSameEntry (entryOf l i) (chosen (blockIn l i) .entry)) (isSameList (bodyOf l i) (bodyFor (blockIn l i)))
 
 -- This is the lowest block that is not, and the count where there is none.
 unfoldable pub foreign : List ℕ → ℕ

@@ -12,10 +12,9 @@ use files::block_from;
 use files::body_from;
 ghost use mathlib.Core.Path.{_≡_};
 ghost use Prim.Native.Nat.{_<_};
-ghost use Rattle.contents.specs.declared.FileAnswer.the-variants.{Done};
 ghost use Rattle.contents.specs.Answers.{fileAnswer};
 ghost use Rattle.contents.specs.Contents.{count as countIn, bodyStart};
-ghost use Rattle.files.specs.Files.{fileTests};
+ghost use Rattle.files.specs.Files.{FileTaken};
 ghost use Rattle.canonical.specs.Canonical.{isSameEntry, isOurs, foreign, canonicalTests};
 
 // Checks that the file is what our writer would give for its rows.
@@ -38,7 +37,7 @@ pub fn check(file: &[u8]) -> FileAnswer
 
 // The lowest block that is not as our writer would write it, and the count where there is none, in a file that the reader accepts.
 fn lowest_foreign(file: &[u8]) -> usize
-    requires { ⌜ fileAnswer (fileTests (now file)) ≡ Done ⌝ }
+    requires { ⌜ FileTaken (now file) ⌝ }
     ensures { λ r. ⌜ r ≡ foreign (now (file .entry)) ⌝ }
 {
     let n = count(file);
@@ -55,7 +54,7 @@ fn lowest_foreign(file: &[u8]) -> usize
 
 // Whether block i, whose body begins at `at`, is as our writer would write it. No body that is chosen is longer than 8,192 bytes.
 fn is_ours(file: &[u8], i: usize, at: usize) -> bool
-    requires { ⌜ fileAnswer (fileTests (now file)) ≡ Done ⌝ }
+    requires { ⌜ FileTaken (now file) ⌝ }
     requires { ⌜ i < countIn (now file) ⌝ }
     requires { ⌜ at ≡ bodyStart (now file) i ⌝ }
     ensures { λ r. ⌜ r ≡ isOurs (now (file .entry)) i ⌝ }

@@ -15,7 +15,7 @@ use Rattle.lists.proofs.Failing.{failing-append, failing-ext, failing-shift, ma
 use Rattle.lists.proofs.Passing.{map-both}
 use Rattle.contents.specs.Contents.{count}
 use Rattle.files.specs.Files.{blockIn, rowAt}
-use Rattle.compare.specs.Changes.{isSame, differing, changeAt, changesIn, rowsInBoth, isSameRow, changeOf, changesOf, changesTo}
+use Rattle.compare.specs.Changes.{isSameAt, differing, changeAt, changesIn, rowsInBoth, isSameRow, changeOf, changesOf, changesTo}
 use Rattle.compare.specs.Listed.{InBoth, noChange, Lists}
 
 -- What a rule makes of the entry at a place that is there.
@@ -41,10 +41,10 @@ module _ (l m : List ℕ) where
       (ap (λ s. failingFrom s 1024 (isSameRow l m)) (sym (add-zero (i * 1024)))
       ∙ failing-shift (i * 1024) 0 1024 (isSameRow l m)
       ∙ ap (map (λ p. i * 1024 + p))
-      (failing-ext 0 1024 (λ p. isSameRow l m (i * 1024 + p)) (isSame (blockIn l i) (blockIn m i))
+      (failing-ext 0 1024 (λ p. isSameRow l m (i * 1024 + p)) (isSameAt (blockIn l i) (blockIn m i))
       (λ p _ h. ap₂ eqb (row-of l i p (omega arith)) (row-of m i p (omega arith)))))
-      ∙ map-map (changeOf l m) (λ p. i * 1024 + p) (failingFrom 0 1024 (isSame (blockIn l i) (blockIn m i)))
-      ∙ map-failing (λ p. changeOf l m (i * 1024 + p)) (changeAt i (blockIn l i) (blockIn m i)) (isSame (blockIn l i) (blockIn m i)) 0 1024
+      ∙ map-map (changeOf l m) (λ p. i * 1024 + p) (failingFrom 0 1024 (isSameAt (blockIn l i) (blockIn m i)))
+      ∙ map-failing (λ p. changeOf l m (i * 1024 + p)) (changeAt i (blockIn l i) (blockIn m i)) (isSameAt (blockIn l i) (blockIn m i)) 0 1024
       (λ p _ h. ap₂ (λ a b. record { row = i * 1024 + p; left = a; right = b }) (row-of l i p (omega arith)) (row-of m i p (omega arith)))
 
   rows-to : (n : ℕ) → changesTo l m n ≡ map (changeOf l m) (failingFrom 0 (n * 1024) (isSameRow l m))

@@ -23,7 +23,7 @@ use Rattle.contents.specs.Answers.{fileAnswer, numberOf, isDone, left as leaves
 use Rattle.contents.proofs.Accepted.{done-first}
 use Rattle.compare.specs.declared.Compared.{Compared}
 use Rattle.compare.specs.declared.Compared.the-variants.{Places, Refused}
-use Rattle.compare.specs.Changes.{isSame, differing, differingTests, comparedOf, differingLeaves}
+use Rattle.compare.specs.Changes.{isSameAt, differing, differingTests, comparedOf, differingLeaves}
 use Rattle.compare.specs.InnerSame.{sameOf}
 
 -- ---- the joined differences
@@ -39,8 +39,8 @@ or-none a b e = (omega (arith, or-add-and a b, and-le-r a b), omega (arith, or-a
 -- The places below i are the same in both blocks exactly when nothing is joined yet.
 pub record Alike (left right : List ℕ) (any i : ℕ) : Type 0 where
   pub within : i ≤ 1024
-  pub none : any ≡ 0 → (k : ℕ) → k < i → isSame left right k ≡ true
-  pub all : ((k : ℕ) → k < i → isSame left right k ≡ true) → any ≡ 0
+  pub none : any ≡ 0 → (k : ℕ) → k < i → isSameAt left right k ≡ true
+  pub all : ((k : ℕ) → k < i → isSameAt left right k ≡ true) → any ≡ 0
 
 pub alike-none : (left right : List ℕ) → Alike left right 0 0
 alike-none left right = record { within = omega arith; none = λ _ k h. absurd (omega arith); all = λ _. refl }
@@ -52,7 +52,7 @@ alike-next {left} {right} {any} {i} next a h e = record {
   none = λ z k b.
       let parts = or-none any (bitXor (getD left i 0) (getD right i 0)) (sym e ∙ z) in
       elim (decLe i k) [
-        | yes last ↦ let q : k ≡ i = omega arith in ap (isSame left right) q ∙ eq-eqb (getD left i 0) (getD right i 0) (xor-none _ _ (parts .1))
+        | yes last ↦ let q : k ≡ i = omega arith in ap (isSameAt left right) q ∙ eq-eqb (getD left i 0) (getD right i 0) (xor-none _ _ (parts .1))
         | no first ↦ a .none (parts .0) k (omega arith)
       ];
   all = λ same.
@@ -69,20 +69,20 @@ alike-all {left} {right} {any} {i} a h =
     elim (ℕ-discrete any 0) [
       | yes z ↦
           eq-eqb any 0 z
-          ∙ sym (ap (λ l. eqb (length l) 0) (failing-none 1024 (isSame left right) (λ k b. a .none z k (omega arith))))
+          ∙ sym (ap (λ l. eqb (length l) 0) (failing-none 1024 (isSameAt left right) (λ k b. a .none z k (omega arith))))
       | no n ↦
           ne-eqb any 0 n
           ∙ sym (ne-eqb (length (differing left right)) 0
           (λ empty. n (a .all (λ k b. passes k (omega arith) empty))))
     ]
   where
-    passes : (k : ℕ) → k < 1024 → length (failingFrom 0 1024 (isSame left right)) ≡ 0 → isSame left right k ≡ true
-    passes k b empty = go (isSame left right k) refl
+    passes : (k : ℕ) → k < 1024 → length (failingFrom 0 1024 (isSameAt left right)) ≡ 0 → isSameAt left right k ≡ true
+    passes k b empty = go (isSameAt left right k) refl
       where
-        go : (t : Bool) → isSame left right k ≡ t → isSame left right k ≡ true
+        go : (t : Bool) → isSameAt left right k ≡ t → isSameAt left right k ≡ true
         go true e = e
         go false e =
-            let there = failing-all 0 1024 (isSame left right) k (omega arith) (omega arith) e in
+            let there = failing-all 0 1024 (isSameAt left right) k (omega arith) (omega arith) e in
             absurd (omega (arith, there .1))
 
 -- ---- the places that are written
@@ -91,8 +91,8 @@ alike-all {left} {right} {any} {i} a h =
 pub record Noted (left right x y : List ℕ) (n i : ℕ) : Type 0 where
   pub room : length x ≡ 1024
   pub within : i ≤ 1024
-  pub many : n ≡ length (failingFrom 0 i (isSame left right))
-  pub is : y ≡ over 0 (failingFrom 0 i (isSame left right)) x
+  pub many : n ≡ length (failingFrom 0 i (isSameAt left right))
+  pub is : y ≡ over 0 (failingFrom 0 i (isSameAt left right)) x
 
 pub noted-none : (left right x : List ℕ) → length x ≡ 1024 → Noted left right x x 0 0
 unfolding failingFrom passing
@@ -100,19 +100,19 @@ noted-none left right x e = record { room = e; within = omega arith; many = refl
 
 -- fewer places are written than passed
 pub noted-few : {left right x y : List ℕ} {n i : ℕ} → Noted left right x y n i → n ≤ i
-noted-few {left} {right} {i = i} t = omega (arith, t .many, failing-few 0 i (isSame left right))
+noted-few {left} {right} {i = i} t = omega (arith, t .many, failing-few 0 i (isSameAt left right))
 
 pub noted-length : {left right x y : List ℕ} {n i : ℕ} → Noted left right x y n i → length y ≡ 1024
 noted-length {left} {right} {x} {i = i} t =
     ap length (t .is)
-    ∙ length-over 0 (failingFrom 0 i (isSame left right)) x (omega (arith, t .room, t .within, failing-few 0 i (isSame left right)))
+    ∙ length-over 0 (failingFrom 0 i (isSameAt left right)) x (omega (arith, t .room, t .within, failing-few 0 i (isSameAt left right)))
     ∙ t .room
 
 pub noted-same : {left right x y z : List ℕ} {n m i : ℕ} → Noted left right x y n i → i < 1024 → getD left i 0 ≡ getD right i 0
     → z ≡ y → m ≡ n → Noted left right x z m (i + 1)
 noted-same {left} {right} {x} {i = i} t h e same-list same-count =
-    let same : failingFrom 0 (i + 1) (isSame left right) ≡ failingFrom 0 i (isSame left right) =
-    failing-passed i (isSame left right) (eq-eqb (getD left i 0) (getD right i 0) e) ∙ append-nil _ in
+    let same : failingFrom 0 (i + 1) (isSameAt left right) ≡ failingFrom 0 i (isSameAt left right) =
+    failing-passed i (isSameAt left right) (eq-eqb (getD left i 0) (getD right i 0) e) ∙ append-nil _ in
     record {
       room = t .room;
       within = omega arith;
@@ -123,9 +123,9 @@ noted-same {left} {right} {x} {i = i} t h e same-list same-count =
 pub noted-other : {left right x y z : List ℕ} {n m i : ℕ} → Noted left right x y n i → i < 1024 → (getD left i 0 ≡ getD right i 0 → ⊥)
     → z ≡ set y n i → m ≡ n + 1 → Noted left right x z m (i + 1)
 noted-other {left} {right} {x} {y} {n = n} {i = i} t h e written more =
-    let other = failing-failed i (isSame left right) (ne-eqb (getD left i 0) (getD right i 0) e) in
-    let before = failingFrom 0 i (isSame left right) in
-    let few : length before ≤ i = failing-few 0 i (isSame left right) in
+    let other = failing-failed i (isSameAt left right) (ne-eqb (getD left i 0) (getD right i 0) e) in
+    let before = failingFrom 0 i (isSameAt left right) in
+    let few : length before ≤ i = failing-few 0 i (isSameAt left right) in
     record {
       room = t .room;
       within = omega arith;
@@ -144,8 +144,8 @@ pub noted-all : {left right x y : List ℕ} {n i : ℕ} → Noted left right x y
 unfolding differing
 noted-all {left} {right} {x} {y} {n} {i} t h =
     let z : i ≡ 1024 = omega (arith, t .within) in (
-      t .many ∙ ap (λ k. length (failingFrom 0 k (isSame left right))) z,
-      t .is ∙ ap (λ k. over 0 (failingFrom 0 k (isSame left right)) x) z,
+      t .many ∙ ap (λ k. length (failingFrom 0 k (isSameAt left right))) z,
+      t .is ∙ ap (λ k. over 0 (failingFrom 0 k (isSameAt left right)) x) z,
     )
 
 -- ---- what the comparison gives and leaves, by the lengths

@@ -20,12 +20,12 @@ use Rattle.compare.specs.declared.Compared.{Compared}
 use Rattle.compare.specs.declared.Compared.the-variants.{Places, Refused}
 
 -- This test says that two lists have the same number at place i.
-abbrev pub isSame : (left right : List ℕ) (i : ℕ) → Bool
-isSame left right i = eqb (getD left i 0) (getD right i 0)
+abbrev pub isSameAt : (left right : List ℕ) (i : ℕ) → Bool
+isSameAt left right i = eqb (getD left i 0) (getD right i 0)
 
 -- These are the places at which two blocks differ.
 unfoldable pub differing : (left right : List ℕ) → List ℕ
-differing left right = failingFrom 0 1024 (isSame left right)
+differing left right = failingFrom 0 1024 (isSameAt left right)
 
 -- Both blocks and the room for the places have to be 1,024 long: 2 where one is not.
 abbrev pub differingTests : (left right places : List ℕ) → List FileTest

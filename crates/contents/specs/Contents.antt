@@ -5,6 +5,7 @@
 -- Assumes nothing.
 use mathlib.Core.Bool.{Bool, true, false}
 use mathlib.Core.List.{List, [], _∷_}
+use mathlib.Core.Path.{_≡_}
 use Prim.Native.Nat.{ℕ, zero, suc, _+_, _*_, _%_}
 use lib.Dec.{eqb, leb, ltb}
 use lib.ListN.{length, getD}
@@ -12,10 +13,10 @@ use Rattle.lists.specs.Pick.{pick, both, either}
 use Rattle.lists.specs.Search.{firstBad}
 use Rattle.places.specs.Sizes.{largestU64}
 use Rattle.little.specs.Little.{little, littleOr}
-use Rattle.contents.specs.declared.FileAnswer.the-variants.{BadEntry, Cut, Edition, Over}
+use Rattle.contents.specs.declared.FileAnswer.the-variants.{Done, BadEntry, Cut, Edition, Over}
 use Rattle.contents.specs.declared.Entry.{Entry}
 use Rattle.contents.specs.declared.Range.{Range}
-use Rattle.contents.specs.Answers.{FileTest}
+use Rattle.contents.specs.Answers.{FileTest, fileAnswer}
 
 -- The edition is the first number of two bytes,
 abbrev pub edition : List ℕ → ℕ
@@ -123,6 +124,10 @@ contentsTests l size =
     ∷ (both (either (eqb (edition l) 1) (eqb (edition l) 2)) (leb (count l) 256), Edition)
     ∷ (leb (contentsSize (edition l) (count l)) (length l), Cut)
     ∷ entriesTests l size
+
+-- The contents of a file are taken where none of their tests fails.
+abbrev pub ContentsTaken : (l : List ℕ) → Type 0
+ContentsTaken l = fileAnswer (contentsTests l (length l)) ≡ Done
 
 -- Where an entry is not there, this stands for it. It is of no kind, so it is not as laid out.
 abbrev pub noEntry : Entry

@@ -35,7 +35,7 @@ ghost use mathlib.Core.Path.{_≡_};
 ghost use Prim.Native.Nat.{_*_, min};
 ghost use Rattle.contents.specs.Answers.{fileAnswer};
 ghost use Rattle.contents.specs.Contents.{contentsSize, contentsTests, editionOr, countOr, entryOr, rangeOr};
-ghost use Rattle.files.specs.Files.{fileTests, blockTests, blockLeaves};
+ghost use Rattle.files.specs.Files.{fileTests, blockOutTests, blockOutLeaves};
 ghost use Rattle.files.specs.Rows.{rowOf};
 ghost use Rattle.writer.specs.Writer.{writtenOf, fileLeaves};
 ghost use Rattle.search.specs.Search.{foundOf, searchLeaves};
@@ -43,7 +43,7 @@ ghost use Rattle.search.specs.Steps.{opensBy, listedOf, listedLeaves};
 ghost use Rattle.rewrite.specs.Rewrite.{rewrittenOf, rewriteLeaves};
 ghost use Rattle.canonical.specs.Canonical.{canonicalTests};
 ghost use Rattle.bodywise.specs.Cursor.{bodyAt, firstBody, nextBody};
-ghost use Rattle.bodywise.specs.Steps.{frontSize, blockTests as bodyTests, blockLeaves as bodyLeaves, rangeTests};
+ghost use Rattle.bodywise.specs.Steps.{frontSize, heldTests as bodyTests, heldLeaves as bodyLeaves, rangeTests};
 ghost use Rattle.compare.specs.Changes.{comparedOf, differingLeaves};
 ghost use Rattle.compare.specs.Ranges.{sameRange};
 ghost use Rattle.exports.specs.FileHanded.{FileHanded, rowWords, RowHanded, WrittenHanded, FoundHanded, ComparedHanded, EntryHanded, RangeHanded, BodyHanded};
@@ -72,8 +72,8 @@ pub extern "C" fn fascjoldi_file_block_out(
     output: &mut [u64],
     place: &mut usize,
 ) -> usize
-    ensures { λ r. ⌜ FileHanded (fileAnswer (blockTests (now (file .entry)) block (now (output .entry)))) r (now (place .exit)) ⌝ }
-    ensures { λ _. ⌜ now (output .exit) ≡ blockLeaves (now (file .entry)) block (now (output .entry)) ⌝ }
+    ensures { λ r. ⌜ FileHanded (fileAnswer (blockOutTests (now (file .entry)) block (now (output .entry)))) r (now (place .exit)) ⌝ }
+    ensures { λ _. ⌜ now (output .exit) ≡ blockOutLeaves (now (file .entry)) block (now (output .entry)) ⌝ }
 {
     hand(block_out(file, block, output), place)
 }
@@ -248,7 +248,7 @@ pub extern "C" fn fascjoldi_body_block_out(
     ensures { λ r. ⌜ FileHanded (fileAnswer (bodyTests (now (front .entry)) block (now (body .entry)) (now (output .entry)))) r (now (place .exit)) ⌝ }
     ensures { λ _. ⌜ now (output .exit) ≡ bodyLeaves (now (front .entry)) block (now (body .entry)) (now (output .entry)) ⌝ }
 {
-    hand(bodywise::block_of(front, block, body, output), place)
+    hand(bodywise::held_block(front, block, body, output), place)
 }
 
 // Checks the smallest and the largest of a block's numbers, which were laid down, against what the contents say: 10 with the block where its entry

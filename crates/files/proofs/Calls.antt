@@ -18,7 +18,7 @@ use Rattle.contents.specs.Contents.{count, entryOf, entryOr, isLaidOut, content
 use Rattle.contents.proofs.Accepted.{whole-laid, done-front}
 use Rattle.contents.proofs.Answers.{passed, stopped, none-left, in-front-done, in-front-refused}
 use Rattle.files.specs.declared.Row.the-variants.{Uncounted, Refused}
-use Rattle.files.specs.Files.{rowCount, rowAt, blockIn, badRange, fileTests, blockTests, blockLeaves, rowTests}
+use Rattle.files.specs.Files.{rowCount, rowAt, blockIn, badRange, fileTests, blockOutTests, blockOutLeaves, rowTests}
 use Rattle.files.specs.Rows.{given, rowOf}
 use Rattle.bodywise.proofs.Told.{whole, entry-read}
 use Rattle.files.proofs.Files.{goodIn, left-picked}
@@ -40,23 +40,23 @@ number-passed n m e =
 
 -- One block out tests its output first, then makes the tests of the file, and tests the number of the block last.
 module _ (l : List ℕ) (b : ℕ) (output : List ℕ) where
-  pub bad-output : (length output ≡ 1024 → ⊥) → fileAnswer (blockTests l b output) ≡ Block
+  pub bad-output : (length output ≡ 1024 → ⊥) → fileAnswer (blockOutTests l b output) ≡ Block
   bad-output h = stopped _ _ (ne-eqb (length output) 1024 h)
 
   module _ (e : length output ≡ 1024) where
-    pub block-refused : (numberOf (fileAnswer (fileTests l)) ≡ 0 → ⊥) → fileAnswer (blockTests l b output) ≡ fileAnswer (fileTests l)
+    pub block-refused : (numberOf (fileAnswer (fileTests l)) ≡ 0 → ⊥) → fileAnswer (blockOutTests l b output) ≡ fileAnswer (fileTests l)
     block-refused refused =
         passed _ _ (eq-eqb (length output) 1024 e)
         ∙ in-front-refused (fileTests l) _ (λ d. refused (ap numberOf d))
 
     module _ (done : fileAnswer (fileTests l) ≡ Done) where
-      number-left : fileAnswer (blockTests l b output) ≡ fileAnswer ((ltb b (count l), Beyond) ∷ [])
+      number-left : fileAnswer (blockOutTests l b output) ≡ fileAnswer ((ltb b (count l), Beyond) ∷ [])
       number-left = passed _ _ (eq-eqb (length output) 1024 e) ∙ in-front-done (fileTests l) _ refl done
 
-      pub block-beyond : count l ≤ b → fileAnswer (blockTests l b output) ≡ Beyond
+      pub block-beyond : count l ≤ b → fileAnswer (blockOutTests l b output) ≡ Beyond
       block-beyond h = number-left ∙ stopped _ _ (le-ltb b (count l) h)
 
-      pub block-done : b < count l → fileAnswer (blockTests l b output) ≡ Done
+      pub block-done : b < count l → fileAnswer (blockOutTests l b output) ≡ Done
       block-done h = number-left ∙ passed _ _ (lt-ltb b (count l) h) ∙ none-left
 
 -- What a row of a block that is laid down gives, by whether it was laid down.
@@ -77,10 +77,10 @@ module _ (l : List ℕ) where
     file-done good = file-ranges l (none-bad l right b others good) ∙ ranges-done l ranges
 
     module _ (output : List ℕ) (e : length output ≡ 1024) (h : b < count l) where
-      pub block-decides : fileAnswer (blockTests l b output) ≡ pick (goodIn l b) Done (Runs b)
+      pub block-decides : fileAnswer (blockOutTests l b output) ≡ pick (goodIn l b) Done (Runs b)
       block-decides = go (goodIn l b) refl
         where
-          go : (t : Bool) → goodIn l b ≡ t → fileAnswer (blockTests l b output) ≡ pick t Done (Runs b)
+          go : (t : Bool) → goodIn l b ≡ t → fileAnswer (blockOutTests l b output) ≡ pick t Done (Runs b)
           go true g = block-done l b output e (file-done (λ _. g)) h
           go false g =
               let runs = asked-bad l right b (count l) (sym others) (omega arith) h g in
@@ -90,8 +90,8 @@ module _ (l : List ℕ) where
               thirteen : _≡_ {A = ℕ} 13 0 → ⊥
               thirteen z = omega arith
 
-      pub block-leaves : blockLeaves l b output ≡ pick (goodIn l b) (blockIn l b) output
-      unfolding blockLeaves
+      pub block-leaves : blockOutLeaves l b output ≡ pick (goodIn l b) (blockIn l b) output
+      unfolding blockOutLeaves
       block-leaves = ap (λ a. left a (blockIn l b) output) block-decides ∙ left-picked (goodIn l b) b (blockIn l b) output
 
   module _ (p : ℕ) where
@@ -109,7 +109,7 @@ module _ (l : List ℕ) where
         ]
 
     -- The lookup of row p is answered as one block out of block p / 1,024 is.
-    pub row-as-block : (output : List ℕ) → length output ≡ 1024 → fileAnswer (rowTests l p) ≡ fileAnswer (blockTests l (p / 1024) output)
+    pub row-as-block : (output : List ℕ) → length output ≡ 1024 → fileAnswer (rowTests l p) ≡ fileAnswer (blockOutTests l (p / 1024) output)
     row-as-block output e =
         last-same (fileTests l) ((ltb p (rowCount l), Beyond)) ((ltb (p / 1024) (count l), Beyond)) same-number
         ∙ sym (passed _ _ (eq-eqb (length output) 1024 e))

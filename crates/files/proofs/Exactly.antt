@@ -30,7 +30,7 @@ use Rattle.contents.proofs.Checks as Checks
 use Rattle.contents.proofs.Laid.{laid-plain, taken-plain, both-is, leb-is}
 use Rattle.bodies.specs.Bodies.{hasGoodRuns, valueCount}
 use Rattle.bodies.specs.Ranges.{isRange}
-use Rattle.files.specs.Files.{bodyOf, blockIn, hasTrueRange, badRuns, badRange, rowCount, fileTests, blockTests, rowTests}
+use Rattle.files.specs.Files.{bodyOf, blockIn, hasTrueRange, badRuns, badRange, rowCount, fileTests, blockOutTests, rowTests}
 use Rattle.files.specs.Reasons.{GoodRuns, TrueRange, Headed, EntryRight, RightTo, GoodTo, TrueTo, Right, Reason, BlockReason, RowReason}
 use Rattle.files.specs.Reasons.{short-head, other-edition, short-entries, bad-entry, short-bodies, left-over, bad-runs, bad-range, none}
 use Rattle.files.specs.Reasons.{bad-output, of-file-block, no-block, block-there, of-file-row, no-row, row-there}
@@ -317,10 +317,10 @@ module _ (l : List ℕ) where
     row-exactly a = ((λ e. subst (RowReason l p) (sym (row-gives (from-row .1)) ∙ e) (from-row .1)), (λ r. row-gives r))
 
   module _ (b : ℕ) (output : List ℕ) where
-    sized : length output ≡ 1024 → fileAnswer (blockTests l b output) ≡ fileAnswer (fileTests l ++ ((ltb b (count l), Beyond) ∷ []))
+    sized : length output ≡ 1024 → fileAnswer (blockOutTests l b output) ≡ fileAnswer (fileTests l ++ ((ltb b (count l), Beyond) ∷ []))
     sized e = passed _ _ (eq-eqb (length output) 1024 e)
 
-    block-gives : {a : FileAnswer} → BlockReason l b output a → fileAnswer (blockTests l b output) ≡ a
+    block-gives : {a : FileAnswer} → BlockReason l b output a → fileAnswer (blockOutTests l b output) ≡ a
     block-gives (bad-output h) = stopped _ _ (ne-eqb (length output) 1024 h)
     block-gives (of-file-block a e n r) = sized e ∙ refused-front ((ltb b (count l), Beyond)) a n r
     block-gives (no-block e r h) = sized e ∙ right-front ((ltb b (count l), Beyond)) r ∙ number-beyond b (count l) h
@@ -341,5 +341,5 @@ module _ (l : List ℕ) where
         ]
 
     -- Each answer of one block out is given exactly when it has the reason for it.
-    pub block-exactly : (a : FileAnswer) → (fileAnswer (blockTests l b output) ≡ a) ↔ BlockReason l b output a
+    pub block-exactly : (a : FileAnswer) → (fileAnswer (blockOutTests l b output) ≡ a) ↔ BlockReason l b output a
     block-exactly a = ((λ e. subst (BlockReason l b output) (sym (block-gives (from-block .1)) ∙ e) (from-block .1)), (λ r. block-gives r))

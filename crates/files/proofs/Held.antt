@@ -32,7 +32,7 @@ use Rattle.bodywise.proofs.Told.{whole}
 use Rattle.files.proofs.Files.{goodIn, body-tested}
 use Rattle.files.proofs.Ranges.{contents-right, runs-good, file-runs, ranges-true}
 use Rattle.bodywise.specs.InnerPlaced.{inBlock}
-use Rattle.bodywise.specs.Steps.{hasTrueRange, bodyTests, blockTests, blockLeaves, rangeTests, stepOf, frontOf, answerAfter}
+use Rattle.bodywise.specs.Steps.{hasTrueRange, bodyTests, heldTests, heldLeaves, rangeTests, stepOf, frontOf, answerAfter}
 use Rattle.bodywise.proofs.Fronts.{Front, front-right}
 use Rattle.bodywise.proofs.Steps.{body-placed, step-settled, step-body, step-range, range-answer}
 
@@ -228,12 +228,12 @@ module _ (l front : List ℕ) (held : Front l front) where
     right : fileAnswer (contentsTests l (length l)) ≡ Done
     right = contents-right l (file-runs l accepted)
 
-    pub again-answer : (output : List ℕ) → length output ≡ 1024 → fileAnswer (blockTests front i (bodyOf l i) output) ≡ Done
+    pub again-answer : (output : List ℕ) → length output ≡ 1024 → fileAnswer (heldTests front i (bodyOf l i) output) ≡ Done
     again-answer output e =
         passed _ _ (eq-eqb (length output) 1024 e) ∙ body-answer l front held right i h (runs-good l (file-runs l accepted) i h)
 
-    pub again-block : (output : List ℕ) → length output ≡ 1024 → blockLeaves front i (bodyOf l i) output ≡ blockIn l i
-    unfolding blockLeaves
+    pub again-block : (output : List ℕ) → length output ≡ 1024 → heldLeaves front i (bodyOf l i) output ≡ blockIn l i
+    unfolding heldLeaves
     again-block output e =
         ap (λ a. left a (blockOf (entryOr front i) (bodyOf l i)) output) (again-answer output e) ∙ block-is l front held right i h
 

@@ -18,7 +18,7 @@ use Rattle.contents.specs.Answers.{FileTest, fileAnswer, numberOf, isDone}
 use Rattle.contents.specs.Contents.{count, entryOf, contentsTests}
 use Rattle.contents.proofs.Answers.{in-front-done, in-front-refused, number-done, left-refused}
 use Rattle.bodies.specs.Bodies.{hasGoodRuns, bodyTests}
-use Rattle.files.specs.Files.{bodyOf, blockIn, badRuns, badRange, fileTests, blockTests, blockLeaves}
+use Rattle.files.specs.Files.{bodyOf, blockIn, badRuns, badRange, fileTests, blockOutTests, blockOutLeaves}
 use Rattle.files.proofs.Files.{body-tested, tested-done}
 
 -- This is the lowest block whose body the second step refuses, and the count where there is none.
@@ -66,6 +66,6 @@ module _ (l : List ℕ) where
           (λ d. eqb-false (numberOf (fileAnswer (contentsTests l (length l)))) 0 e (ap numberOf d))
 
   -- A refused block out leaves its output as it was.
-  pub block-out-refused : (b : ℕ) (output : List ℕ) → (numberOf (fileAnswer (blockTests l b output)) ≡ 0 → ⊥) → blockLeaves l b output ≡ output
-  unfolding blockLeaves
-  block-out-refused b output h = left-refused (fileAnswer (blockTests l b output)) (blockIn l b) output h
+  pub block-out-refused : (b : ℕ) (output : List ℕ) → (numberOf (fileAnswer (blockOutTests l b output)) ≡ 0 → ⊥) → blockOutLeaves l b output ≡ output
+  unfolding blockOutLeaves
+  block-out-refused b output h = left-refused (fileAnswer (blockOutTests l b output)) (blockIn l b) output h

@@ -3,6 +3,7 @@
 -- Assumes nothing.
 use mathlib.Core.Bool.{Bool, true}
 use mathlib.Core.List.{List, [], _∷_, _++_}
+use mathlib.Core.Path.{_≡_}
 use Prim.Native.Nat.{ℕ, _*_, _/_, _%_}
 use lib.Dec.{eqb, ltb}
 use lib.ListN.{length, getD, take, drop}
@@ -10,7 +11,7 @@ use Rattle.lists.specs.Tests.{long}
 use Rattle.lists.specs.Pick.{pick}
 use Rattle.lists.specs.Tab.{tab}
 use Rattle.lists.specs.Search.{firstBad}
-use Rattle.contents.specs.declared.FileAnswer.the-variants.{Beyond, Block, Range, Runs}
+use Rattle.contents.specs.declared.FileAnswer.the-variants.{Done, Beyond, Block, Range, Runs}
 use Rattle.contents.specs.Answers.{FileTest, fileAnswer, left}
 use Rattle.contents.specs.Contents.{edition, count, entryOf, rangeOf, bodyStart, contentsTests}
 use Rattle.bodies.specs.Bodies.{blockOf, hasGoodRuns}
@@ -57,13 +58,17 @@ fileTests l =
     ∷ (eqb (badRange l) (count l), Range (badRange l))
     ∷ [])
 
+-- A file is taken where none of its tests fails.
+abbrev pub FileTaken : (l : List ℕ) → Type 0
+FileTaken l = fileAnswer (fileTests l) ≡ Done
+
 -- One block out tests its output first, and the number of the block last.
-abbrev pub blockTests : (l : List ℕ) (b : ℕ) (output : List ℕ) → List FileTest
-blockTests l b output = (long 1024 output, Block) ∷ (fileTests l ++ ((ltb b (count l), Beyond) ∷ []))
+abbrev pub blockOutTests : (l : List ℕ) (b : ℕ) (output : List ℕ) → List FileTest
+blockOutTests l b output = (long 1024 output, Block) ∷ (fileTests l ++ ((ltb b (count l), Beyond) ∷ []))
 
 -- One block out leaves this in its output.
-unfoldable pub blockLeaves : (l : List ℕ) (b : ℕ) (output : List ℕ) → List ℕ
-blockLeaves l b output = left (fileAnswer (blockTests l b output)) (blockIn l b) output
+unfoldable pub blockOutLeaves : (l : List ℕ) (b : ℕ) (output : List ℕ) → List ℕ
+blockOutLeaves l b output = left (fileAnswer (blockOutTests l b output)) (blockIn l b) output
 
 -- The lookup of a row tests the number of the row last.
 abbrev pub rowTests : (l : List ℕ) (p : ℕ) → List FileTest

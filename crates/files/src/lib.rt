@@ -27,10 +27,10 @@ ghost use Rattle.places.specs.Sizes.{t64};
 ghost use Rattle.access.specs.Counts.{countAt};
 ghost use Rattle.contents.specs.declared.FileAnswer.the-variants.{Done, Runs, Range};
 ghost use Rattle.contents.specs.Answers.{fileAnswer, numberOf};
-ghost use Rattle.contents.specs.Contents.{edition as editionIn, count as countIn, entryOf, bodyStart, contentsTests};
+ghost use Rattle.contents.specs.Contents.{edition as editionIn, count as countIn, entryOf, bodyStart, contentsTests, ContentsTaken};
 ghost use Rattle.bodies.specs.Bodies.{hasGoodRuns};
 ghost use Rattle.files.specs.declared.Row.the-variants.{Counted, Uncounted, Refused};
-ghost use Rattle.files.specs.Files.{bodyOf, blockIn, badRange, fileTests, blockTests, blockLeaves};
+ghost use Rattle.files.specs.Files.{bodyOf, blockIn, badRange, fileTests, blockOutTests, blockOutLeaves};
 ghost use Rattle.files.specs.Froms.{bodyFrom, goodFrom, fromTests, fromLeaves, trueFrom};
 ghost use Rattle.files.specs.InnerRuns.{runsTests};
 ghost use Rattle.files.specs.Rows.{answerOf, valueOf, rowOf};
@@ -115,7 +115,7 @@ fn check_but(file: &[u8], b: usize) -> FileAnswer
 // The lowest block other than b that has a run index out of range, and the count where there is none, in a file whose contents
 // are right. The body of block b is not read.
 fn first_bad_but(file: &[u8], b: usize) -> usize
-    requires { ⌜ fileAnswer (contentsTests (now file) (length (now file))) ≡ Done ⌝ }
+    requires { ⌜ ContentsTaken (now file) ⌝ }
     ensures { λ r. ⌜ r ≡ firstBad (countIn (now (file .entry))) (λ i. either (eqb i b) (hasGoodRuns (entryOf (now (file .entry)) i) (bodyOf (now (file .entry)) i))) ⌝ }
 {
     let n = count(file);
@@ -174,7 +174,7 @@ pub fn is_true_from(file: &[u8], i: usize, at: usize) -> bool
 
 // Where body b begins, in a file whose contents are right.
 fn body_start(file: &[u8], b: usize) -> usize
-    requires { ⌜ fileAnswer (contentsTests (now file) (length (now file))) ≡ Done ⌝ }
+    requires { ⌜ ContentsTaken (now file) ⌝ }
     requires { ⌜ b < countIn (now file) ⌝ }
     ensures { λ r. ⌜ r ≡ bodyStart (now (file .entry)) b ⌝ }
 {
@@ -188,8 +188,8 @@ fn body_start(file: &[u8], b: usize) -> usize
 
 // Lays block b of the file down.
 pub fn block_out(file: &[u8], b: usize, output: &mut [u64]) -> FileAnswer
-    ensures { λ r. ⌜ r ≡ fileAnswer (blockTests (now (file .entry)) b (now (output .entry))) ⌝ }
-    ensures { λ _. ⌜ now (output .exit) ≡ blockLeaves (now (file .entry)) b (now (output .entry)) ⌝ }
+    ensures { λ r. ⌜ r ≡ fileAnswer (blockOutTests (now (file .entry)) b (now (output .entry))) ⌝ }
+    ensures { λ _. ⌜ now (output .exit) ≡ blockOutLeaves (now (file .entry)) b (now (output .entry)) ⌝ }
 {
     if output.len() != 1024 {
         return FileAnswer::Block;
@@ -201,7 +201,7 @@ pub fn block_out(file: &[u8], b: usize, output: &mut [u64]) -> FileAnswer
     if count(file) <= b {
         return FileAnswer::Beyond;
     }
-    lay_down(file, b, output)
+    lay_numbered(file, b, output)
 }
 
 // Checks the file for one block out of it. The ranges are looked at behind all the run indices; where a file has no ranges the run indices of
@@ -219,8 +219,8 @@ fn check_for(file: &[u8], b: usize) -> FileAnswer
 }
 
 // Lays block b down, in a file whose contents are right. Where a run index is out of range, block_of finds it and writes nothing.
-fn lay_down(file: &[u8], b: usize, output: &mut [u64]) -> FileAnswer
-    requires { ⌜ fileAnswer (contentsTests (now file) (length (now file))) ≡ Done ⌝ }
+fn lay_numbered(file: &[u8], b: usize, output: &mut [u64]) -> FileAnswer
+    requires { ⌜ ContentsTaken (now file) ⌝ }
     requires { ⌜ b < countIn (now file) ⌝ }
     requires { ⌜ length (now output) ≡ 1024 ⌝ }
     ensures { λ r. ⌜ r ≡ pick (hasGoodRuns (entryOf (now (file .entry)) b) (bodyOf (now (file .entry)) b)) Done (Runs b) ⌝ }
@@ -288,7 +288,7 @@ pub fn row_at(file: &[u8], p: usize) -> Row
 // The value at a place of block b, which is packed or a frame: what the lookup in its body gives, and the reference is added. A packed
 // block has the reference 0.
 fn packed_row(file: &[u8], b: usize, place: usize) -> Row
-    requires { ⌜ fileAnswer (contentsTests (now file) (length (now file))) ≡ Done ⌝ }
+    requires { ⌜ ContentsTaken (now file) ⌝ }
     requires { ⌜ b < countIn (now file) ⌝ }
     requires { ⌜ entryOf (now file) b .kind < 2 ⌝ }
     requires { ⌜ place < 1024 ⌝ }
@@ -302,13 +302,13 @@ fn packed_row(file: &[u8], b: usize, place: usize) -> Row
 
 // The value at a place of block b, which is of another kind: the block is laid down.
 fn laid_row(file: &[u8], b: usize, place: usize) -> Row
-    requires { ⌜ fileAnswer (contentsTests (now file) (length (now file))) ≡ Done ⌝ }
+    requires { ⌜ ContentsTaken (now file) ⌝ }
     requires { ⌜ b < countIn (now file) ⌝ }
     requires { ⌜ place < 1024 ⌝ }
     ensures { λ r. ⌜ r ≡ pick (hasGoodRuns (entryOf (now (file .entry)) b) (bodyOf (now (file .entry)) b)) (Uncounted (getD (blockIn (now (file .entry)) b) place 0)) (Refused (Runs b)) ⌝ }
 {
     let mut block = [0u64; 1024];
-    let answer = lay_down(file, b, &mut block);
+    let answer = lay_numbered(file, b, &mut block);
     if answer.number() != 0 {
         return Row::Refused(answer);
     }

@@ -18,10 +18,10 @@ use Rattle.contents.specs.Answers.{fileAnswer, numberOf, left as leaves}
 use Rattle.contents.specs.Contents.{entryOr}
 use Rattle.contents.proofs.Answers.{passed, none-left, number-done}
 use Rattle.bodies.specs.Bodies.{blockOf}
-use Rattle.bodywise.specs.Steps.{bodyTests, blockTests, blockLeaves}
+use Rattle.bodywise.specs.Steps.{bodyTests, heldTests, heldLeaves}
 use Rattle.compare.specs.declared.Change.{Change}
 use Rattle.compare.specs.declared.Compared.{Compared}
-use Rattle.compare.specs.Changes.{differing, isSame, changeAt, changesIn, differingTests, comparedOf, differingLeaves, countOf}
+use Rattle.compare.specs.Changes.{differing, isSameAt, changeAt, changesIn, differingTests, comparedOf, differingLeaves, countOf}
 use Rattle.compare.proofs.Noted.{some-differ}
 use Rattle.listing.specs.Text.{changeLine, linesOf}
 use Rattle.listing.proofs.Stages.{over-text}
@@ -40,7 +40,7 @@ changes-long i left right = length-map (differing left right) (changeAt i left r
 
 pub differ-few : (left right : List ℕ) → length (differing left right) ≤ 1024
 unfolding differing
-differ-few left right = failing-few 0 1024 (isSame left right)
+differ-few left right = failing-few 0 1024 (isSameAt left right)
 
 map-at : (f : ℕ → Change) (list : List ℕ) (k d : ℕ) (none : Change) → k < length list → getD (map f list) k none ≡ f (getD list k d)
 map-at f [] k d none h = absurd (omega arith)
@@ -102,10 +102,10 @@ module _ (left right places : List ℕ) (long : length left ≡ 1024) (also : le
 -- ---- a body that is laid down
 
 module _ (front : List ℕ) (i : ℕ) (body block : List ℕ) (long : length block ≡ 1024) where
-  pub tests-same : {a : FileAnswer} → a ≡ fileAnswer (blockTests front i body block) → a ≡ fileAnswer (bodyTests front i body)
+  pub tests-same : {a : FileAnswer} → a ≡ fileAnswer (heldTests front i body block) → a ≡ fileAnswer (bodyTests front i body)
   tests-same e = e ∙ passed _ _ (eq-eqb (length block) 1024 long)
 
-  pub laid-as : {a : FileAnswer} {y : List ℕ} → a ≡ fileAnswer (blockTests front i body block) → numberOf a ≡ 0 → y ≡ blockLeaves front i body block
+  pub laid-as : {a : FileAnswer} {y : List ℕ} → a ≡ fileAnswer (heldTests front i body block) → numberOf a ≡ 0 → y ≡ heldLeaves front i body block
       → y ≡ blockOf (entryOr front i) body
-  unfolding blockLeaves
+  unfolding heldLeaves
   laid-as {a} {y} e z f = f ∙ ap (λ a. leaves a (blockOf (entryOr front i) body) block) (sym e ∙ number-done a z)

@@ -9,11 +9,11 @@
 mod text;
 
 use bodywise::Body;
-use bodywise::block_of;
 use bodywise::body_at;
 use bodywise::check_block;
 use bodywise::first;
 use bodywise::front_length;
+use bodywise::held_block;
 use bodywise::row_count;
 use bodywise::step;
 use compare::blocks_in_both;
@@ -495,11 +495,11 @@ fn lay_both(
     ensures { λ r. ⌜ r ≡ turnOf (bothLaid state (now («left_front» .entry)) (now («right_front» .entry)) (now («left_body» .entry)) (now («right_body» .entry)) (now (out .entry))) ⌝ }
     ensures { λ _. ⌜ now (out .exit) ≡ bothLaid state (now («left_front» .entry)) (now («right_front» .entry)) (now («left_body» .entry)) (now («right_body» .entry)) (now (out .entry)) .out ⌝ }
 {
-    let answer = block_of(left_front, state.number, left_body, left);
+    let answer = held_block(left_front, state.number, left_body, left);
     if answer.number() != 0 {
         return refuse(state, Side::Left, answer, out);
     }
-    let answer = block_of(right_front, state.number, right_body, right);
+    let answer = held_block(right_front, state.number, right_body, right);
     if answer.number() != 0 {
         return refuse(state, Side::Right, answer, out);
     }

@@ -15,13 +15,11 @@ ghost use mathlib.Core.List.{_++_};
 ghost use Prim.Native.Nat.{_+_, _≤_, _<_};
 ghost use lib.ListN.{length};
 ghost use Rattle.lists.specs.Tab.{over};
-ghost use Rattle.contents.specs.declared.FileAnswer.the-variants.{Done};
-ghost use Rattle.contents.specs.Answers.{fileAnswer};
 ghost use Rattle.contents.specs.Bytes.{entryBytes};
 ghost use Rattle.contents.specs.Contents.{count as countIn, contentsSize, bodyStart};
 ghost use Rattle.bodies.specs.Ranges.{trueRange};
 ghost use Rattle.candidates.specs.Candidates.{chosen, bodyFor};
-ghost use Rattle.files.specs.Files.{blockIn, rowsOf, fileTests};
+ghost use Rattle.files.specs.Files.{blockIn, rowsOf, FileTaken};
 ghost use Rattle.writer.specs.Writer.{entriesFor, bodiesFor};
 ghost use Rattle.rewrite.specs.Rewrite.{newFile, rewrittenOf, rewriteLeaves};
 
@@ -44,7 +42,7 @@ pub fn rewrite(file: &[u8], output: &mut [u8]) -> Written
 
 // How many bytes the new file has.
 fn new_size(file: &[u8]) -> usize
-    requires { ⌜ fileAnswer (fileTests (now file)) ≡ Done ⌝ }
+    requires { ⌜ FileTaken (now file) ⌝ }
     ensures { λ r. ⌜ r ≡ length (newFile (now (file .entry))) ⌝ }
 {
     let n = count(file);
@@ -60,7 +58,7 @@ fn new_size(file: &[u8]) -> usize
 
 // How many bytes the new body of block i has, whose old one begins at `from`.
 fn body_size(file: &[u8], i: usize, from: usize) -> usize
-    requires { ⌜ fileAnswer (fileTests (now file)) ≡ Done ⌝ }
+    requires { ⌜ FileTaken (now file) ⌝ }
     requires { ⌜ i < countIn (now file) ⌝ }
     requires { ⌜ from ≡ bodyStart (now file) i ⌝ }
     ensures { λ r. ⌜ r ≡ chosen (blockIn (now (file .entry)) i) .entry .length ⌝ }
@@ -73,7 +71,7 @@ fn body_size(file: &[u8], i: usize, from: usize) -> usize
 
 // Writes the new file to an output that has room for it.
 fn lay_file(file: &[u8], output: &mut [u8])
-    requires { ⌜ fileAnswer (fileTests (now file)) ≡ Done ⌝ }
+    requires { ⌜ FileTaken (now file) ⌝ }
     requires { ⌜ length (newFile (now file)) ≤ length (now output) ⌝ }
     ensures { λ _. ⌜ now (output .exit) ≡ over 0 (newFile (now (file .entry))) (now (output .entry)) ⌝ }
 {
@@ -84,7 +82,7 @@ fn lay_file(file: &[u8], output: &mut [u8])
 
 // Writes the entries and the bodies of all blocks, behind the first four bytes.
 fn lay_blocks(file: &[u8], output: &mut [u8])
-    requires { ⌜ fileAnswer (fileTests (now file)) ≡ Done ⌝ }
+    requires { ⌜ FileTaken (now file) ⌝ }
     requires { ⌜ length (newFile (now file)) ≤ length (now output) ⌝ }
     ensures { λ _. ⌜ now (output .exit) ≡ over 4 (entriesFor (rowsOf (now (file .entry))) (countIn (now (file .entry))) ++ bodiesFor (rowsOf (now (file .entry))) (countIn (now (file .entry)))) (now (output .entry)) ⌝ }
 {
@@ -101,7 +99,7 @@ fn lay_blocks(file: &[u8], output: &mut [u8])
 // Writes the new body of block i, whose old one begins at `from`, from place `at` on, and its entry with its range, and gives
 // the length of the new body. There is room, so the body is not refused.
 fn lay_one(file: &[u8], i: usize, from: usize, at: usize, output: &mut [u8]) -> usize
-    requires { ⌜ fileAnswer (fileTests (now file)) ≡ Done ⌝ }
+    requires { ⌜ FileTaken (now file) ⌝ }
     requires { ⌜ i < countIn (now file) ⌝ }
     requires { ⌜ from ≡ bodyStart (now file) i ⌝ }
     requires { ⌜ (contentsSize 2 (i + 1) ≤ at) × (at + chosen (blockIn (now file) i) .entry .length ≤ length (now output)) ⌝ }

@@ -22,7 +22,7 @@ use Rattle.contents.specs.Answers.{fileAnswer, numberOf, isDone, left}
 use Rattle.contents.specs.Contents.{count, countOr, entryOr, contentsTests}
 use Rattle.contents.proofs.Answers.{passed, in-front-done, in-front-refused, left-refused, number-done}
 use Rattle.bodies.specs.Bodies.{blockOf}
-use Rattle.bodywise.specs.Steps.{bodyTests, blockTests, blockLeaves, rangeTests, stepOf, frontOf}
+use Rattle.bodywise.specs.Steps.{bodyTests, heldTests, heldLeaves, rangeTests, stepOf, frontOf}
 use Rattle.bodywise.proofs.Fronts.{Front, front-right}
 use Rattle.bodywise.proofs.Steps.{step-body, step-range}
 use Rattle.files.specs.Chosen.{chosenAfter}
@@ -37,8 +37,8 @@ use Rattle.search.proofs.Walks.{foundTo, front-opens, found-open, found
 
 -- One opened body more: the answer is that of laying its block down, and behind it that of the range of the block that was laid down.
 pub stepped : (front : List ℕ) (i : ℕ) (body block : List ℕ) → length block ≡ 1024 → stepOf Done front i body
-    ≡ left (fileAnswer (blockTests front i body block)) (fileAnswer (rangeTests front i (blockLeaves front i body block))) (fileAnswer (blockTests front i body block))
-unfolding blockLeaves
+    ≡ left (fileAnswer (heldTests front i body block)) (fileAnswer (rangeTests front i (heldLeaves front i body block))) (fileAnswer (heldTests front i body block))
+unfolding heldLeaves
 stepped front i body block long =
     elim (ℕ-discrete (numberOf (fileAnswer (bodyTests front i body))) 0) [
       | yes z ↦ let done = number-done (fileAnswer (bodyTests front i body)) z in
@@ -50,7 +50,7 @@ stepped front i body block long =
           ∙ left-refused a (fileAnswer (rangeTests front i (left a (blockOf (entryOr front i) body) block))) a n)
     ]
   where
-    same : fileAnswer (blockTests front i body block) ≡ fileAnswer (bodyTests front i body)
+    same : fileAnswer (heldTests front i body block) ≡ fileAnswer (bodyTests front i body)
     same = passed _ _ (eq-eqb (length block) 1024 long)
 
 module _ (l front : List ℕ) (held : Front l front) (low high : ℕ) where

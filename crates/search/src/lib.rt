@@ -20,9 +20,8 @@ ghost use Prim.Native.Nat.{_+_, _*_, _≤_, _<_};
 ghost use lib.Dec.{leb};
 ghost use lib.ListN.{length};
 ghost use Rattle.lists.specs.Tab.{over};
-ghost use Rattle.contents.specs.declared.FileAnswer.the-variants.{Done};
 ghost use Rattle.contents.specs.Answers.{fileAnswer};
-ghost use Rattle.contents.specs.Contents.{edition as editionIn, count as countIn, bodyStart, contentsTests};
+ghost use Rattle.contents.specs.Contents.{edition as editionIn, count as countIn, bodyStart, ContentsTaken};
 ghost use mathlib.Core.Bool.{true, false};
 ghost use Rattle.files.specs.Files.{blockIn};
 ghost use Rattle.search.specs.Search.{between, meets as meetsIn, opened, found, openedTests, foundOf, searchLeaves, answerOf, rowsFound, blocksOpened};
@@ -121,7 +120,7 @@ pub fn opens(front: &[u8], i: usize, low: u64, high: u64) -> bool
 
 // How many blocks are opened, in a file whose contents are right.
 fn count_opened(file: &[u8], low: u64, high: u64) -> usize
-    requires { ⌜ fileAnswer (contentsTests (now file) (length (now file))) ≡ Done ⌝ }
+    requires { ⌜ ContentsTaken (now file) ⌝ }
     ensures { λ r. ⌜ r ≡ length (opened (now (file .entry)) low high) ⌝ }
 {
     let n = count(file);
@@ -139,7 +138,7 @@ fn count_opened(file: &[u8], low: u64, high: u64) -> usize
 // Checks the blocks that are opened, in a file whose contents are right: the run indices of all, and then the ranges. A file of
 // edition 1 says no ranges.
 fn check_opened(file: &[u8], low: u64, high: u64) -> FileAnswer
-    requires { ⌜ fileAnswer (contentsTests (now file) (length (now file))) ≡ Done ⌝ }
+    requires { ⌜ ContentsTaken (now file) ⌝ }
     ensures { λ r. ⌜ r ≡ fileAnswer (openedTests (now (file .entry)) low high) ⌝ }
 {
     let n = count(file);
@@ -160,7 +159,7 @@ fn check_opened(file: &[u8], low: u64, high: u64) -> FileAnswer
 // The lowest opened block that is not as asked, and the count where there is none, in a file whose contents are right. The ranges
 // are asked for in edition 2, where the opened blocks have their run indices in range.
 fn lowest_bad(file: &[u8], low: u64, high: u64, ranges: bool) -> usize
-    requires { ⌜ fileAnswer (contentsTests (now file) (length (now file))) ≡ Done ⌝ }
+    requires { ⌜ ContentsTaken (now file) ⌝ }
     requires { ⌜ (ranges ≡ true → (editionIn (now file) ≡ 2) × (badIn (now file) low high false ≡ countIn (now file))) ⌝ }
     ensures { λ r. ⌜ r ≡ badIn (now (file .entry)) low high ranges ⌝ }
 {
@@ -180,7 +179,7 @@ fn lowest_bad(file: &[u8], low: u64, high: u64, ranges: bool) -> usize
 
 // Whether block i, whose body begins at `at`, is as asked: has the range that its entry says, or its run indices in range.
 fn is_as_asked(file: &[u8], i: usize, at: usize, ranges: bool) -> bool
-    requires { ⌜ fileAnswer (contentsTests (now file) (length (now file))) ≡ Done ⌝ }
+    requires { ⌜ ContentsTaken (now file) ⌝ }
     requires { ⌜ i < countIn (now file) ⌝ }
     requires { ⌜ at ≡ bodyStart (now file) i ⌝ }
     requires { ⌜ (ranges ≡ true → (editionIn (now file) ≡ 2) × (asked (now file) false i ≡ true)) ⌝ }
@@ -194,7 +193,7 @@ fn is_as_asked(file: &[u8], i: usize, at: usize, ranges: bool) -> bool
 
 // Whether there is room for the rows. The k opened blocks have at most 1,024 rows each, and where that many fit nothing is counted.
 fn has_room(file: &[u8], low: u64, high: u64, k: usize, room: usize) -> bool
-    requires { ⌜ fileAnswer (contentsTests (now file) (length (now file))) ≡ Done ⌝ }
+    requires { ⌜ ContentsTaken (now file) ⌝ }
     requires { ⌜ badIn (now file) low high false ≡ countIn (now file) ⌝ }
     requires { ⌜ k ≡ length (opened (now file) low high) ⌝ }
     ensures { λ r. ⌜ r ≡ leb (length (found (now (file .entry)) low high)) room ⌝ }
@@ -207,7 +206,7 @@ fn has_room(file: &[u8], low: u64, high: u64, k: usize, room: usize) -> bool
 
 // How many rows are listed, in a file whose contents are right and whose opened blocks have their run indices in range.
 fn count_rows(file: &[u8], low: u64, high: u64) -> usize
-    requires { ⌜ fileAnswer (contentsTests (now file) (length (now file))) ≡ Done ⌝ }
+    requires { ⌜ ContentsTaken (now file) ⌝ }
     requires { ⌜ badIn (now file) low high false ≡ countIn (now file) ⌝ }
     ensures { λ r. ⌜ r ≡ length (found (now (file .entry)) low high) ⌝ }
 {
@@ -226,7 +225,7 @@ fn count_rows(file: &[u8], low: u64, high: u64) -> usize
 
 // Lists the rows at the front of the room, where there is room for all of them, and gives how many they are.
 fn list_rows(file: &[u8], low: u64, high: u64, rows: &mut [u64]) -> usize
-    requires { ⌜ fileAnswer (contentsTests (now file) (length (now file))) ≡ Done ⌝ }
+    requires { ⌜ ContentsTaken (now file) ⌝ }
     requires { ⌜ badIn (now file) low high false ≡ countIn (now file) ⌝ }
     requires { ⌜ length (found (now file) low high) ≤ length (now rows) ⌝ }
     ensures { λ r. ⌜ r ≡ length (found (now (file .entry)) low high) ⌝ }
@@ -278,7 +277,7 @@ fn block_fits(block: &[u64], low: u64, high: u64, room: usize) -> bool
 
 // How many rows are found in block i, whose body begins at `at`.
 fn count_from(file: &[u8], i: usize, at: usize, low: u64, high: u64) -> usize
-    requires { ⌜ fileAnswer (contentsTests (now file) (length (now file))) ≡ Done ⌝ }
+    requires { ⌜ ContentsTaken (now file) ⌝ }
     requires { ⌜ i < countIn (now file) ⌝ }
     requires { ⌜ at ≡ bodyStart (now file) i ⌝ }
     requires { ⌜ asked (now file) false i ≡ true ⌝ }
@@ -314,7 +313,7 @@ fn list_from(
     k: usize,
     rows: &mut [u64],
 ) -> usize
-    requires { ⌜ fileAnswer (contentsTests (now file) (length (now file))) ≡ Done ⌝ }
+    requires { ⌜ ContentsTaken (now file) ⌝ }
     requires { ⌜ i < countIn (now file) ⌝ }
     requires { ⌜ at ≡ bodyStart (now file) i ⌝ }
     requires { ⌜ asked (now file) false i ≡ true ⌝ }

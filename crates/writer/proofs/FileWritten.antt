@@ -35,7 +35,7 @@ use Rattle.deltas.specs.Deltas.{before, deltaOf, frameOf, forPackOf}
 use Rattle.candidates.specs.Restored.{candidate}
 use Rattle.candidates.proofs.Choice.{chosen-shortest}
 use Rattle.candidates.proofs.Least.{no-narrower}
-use Rattle.files.specs.Files.{blockIn, rowAt, rowsOf, fileTests, blockTests, blockLeaves}
+use Rattle.files.specs.Files.{blockIn, rowAt, rowsOf, fileTests, blockOutTests, blockOutLeaves}
 use Rattle.files.specs.Reasons.{Reason, block-there, no-block, row-there, no-row}
 use Rattle.files.specs.Rows.{rowOf, valueOf, answerOf as rowAnswer}
 use Rattle.files.proofs.Exactly.{file-exactly, block-exactly, row-exactly}
@@ -136,8 +136,8 @@ module _ (values output : List ℕ) where
 
       -- One block out is done, and leaves the numbers of the block,
       pub write-block-out : (i : ℕ) → i < blockCount values → (room : List ℕ) → length room ≡ 1024
-          → (fileAnswer (blockTests (laidDown values output) i room) ≡ Done) × (blockLeaves (laidDown values output) i room ≡ blockAt values i)
-      unfolding laid blockLeaves
+          → (fileAnswer (blockOutTests (laidDown values output) i room) ≡ Done) × (blockOutLeaves (laidDown values output) i room ≡ blockAt values i)
+      unfolding laid blockOutLeaves
       write-block-out i h room long =
           let b = write-blocks in
           let done = block-exactly laid i room Done .1 (block-there long laid-right (omega (arith, laid-count))) in (
@@ -149,8 +149,8 @@ module _ (values output : List ℕ) where
 
       -- or, past the last block, is refused with 12 and leaves its output.
       pub write-no-block : (i : ℕ) → blockCount values ≤ i → (room : List ℕ) → length room ≡ 1024
-          → (fileAnswer (blockTests (laidDown values output) i room) ≡ Beyond) × (blockLeaves (laidDown values output) i room ≡ room)
-      unfolding laid blockLeaves
+          → (fileAnswer (blockOutTests (laidDown values output) i room) ≡ Beyond) × (blockOutLeaves (laidDown values output) i room ≡ room)
+      unfolding laid blockOutLeaves
       write-no-block i h room long =
           let beyond = block-exactly laid i room Beyond .1 (no-block long laid-right (omega (arith, laid-count))) in
           (beyond, ap (λ a. left a (blockIn laid i) room) beyond)

@@ -22,7 +22,7 @@ use Rattle.files.specs.Files.{bodyOf, blockIn}
 use Rattle.bodywise.proofs.Told.{entry-read}
 use Rattle.files.proofs.Froms.{body-from-is}
 use Rattle.rewrite.proofs.Rows.{right, block-long, block-laid}
-use Rattle.canonical.specs.Canonical.{isSameEntry, isSame, isOurs}
+use Rattle.canonical.specs.Canonical.{isSameEntry, isSameList, isOurs}
 use Rattle.canonical.proofs.Same.{same-test}
 use Rattle.canonical.proofs.is_ours.Statement.{statement}
 use Rattle.canonical.proofs.is_ours.Tie as tie
@@ -88,7 +88,7 @@ returns c =
     let l = now (start .args .file) in
     let i = start .args .i in
     sym
-    (ap (λ t. both t (isSame (bodyOf l i) (bodyFor (blockIn l i)))) (sym (tested-is tested) ∙ not-true _ (c .if1 .taken)))
+    (ap (λ t. both t (isSameList (bodyOf l i) (bodyFor (blockIn l i)))) (sym (tested-is tested) ∙ not-true _ (c .if1 .taken)))
 
 body-from-requires : tie.Need-body-from-requires
 body-from-requires c κs = search needs
@@ -122,9 +122,9 @@ returns-2 c =
     let done = start .pre .0 in
     let same = sym (tested-is tested) ∙ not-false _ (other .if1 .left) in
     same-test _ _ _ (c .same .ensures)
-    ∙ ap₂ isSame (lent .body-from .ensures ∙ body-from-is l (right l done) i (start .pre .1 .0) (start .args .at) (start .pre .1 .1))
+    ∙ ap₂ isSameList (lent .body-from .ensures ∙ body-from-is l (right l done) i (start .pre .1 .0) (start .args .at) (start .pre .1 .1))
     (ap₂ take (ap (λ e. e .length) (ours-is given) ∙ sym (body-sized (blockIn l i))) (laid-is laid .1) ∙ over-front (bodyFor (blockIn l i)) (replicate 8192 0))
-    ∙ sym (ap (λ t. both t (isSame (bodyOf l i) (bodyFor (blockIn l i)))) same)
+    ∙ sym (ap (λ t. both t (isSameList (bodyOf l i) (bodyFor (blockIn l i)))) same)
 
 pub is-ours-spec : {M : Type 1} → statement M
 is-ours-spec =

@@ -1,4 +1,4 @@
--- `files::block_out` meets its contract: each refusal by its test, and the block by what `lay_down` ensures.
+-- `files::block_out` meets its contract: each refusal by its test, and the block by what `lay_numbered` ensures.
 -- Assumes nothing.
 use mathlib.Core.Path.{_≡_, refl, sym, ap, _∙_}
 use Prim.Native.Nat.{_≤_, _<_}
@@ -10,7 +10,7 @@ use Rattle.contents.specs.declared.FileAnswer.the-variants.{Done}
 use Rattle.contents.specs.Answers.{numberOf, fileAnswer, left}
 use Rattle.contents.specs.Contents.{count, contentsTests}
 use Rattle.contents.proofs.Answers.{left-refused}
-use Rattle.files.specs.Files.{blockIn, badRange, fileTests, blockTests, blockLeaves}
+use Rattle.files.specs.Files.{blockIn, badRange, fileTests, blockOutTests, blockOutLeaves}
 use Rattle.files.proofs.Calls.{bad-output, block-refused, block-beyond, file-done, block-decides, block-leaves}
 use Rattle.bodywise.proofs.Told.{count-read}
 use Rattle.files.proofs.Others.{badBut}
@@ -31,7 +31,7 @@ count-is c =
     c .count .ensures ∙ count-read l (rest (c .before) .0)
 
 returns : tie.Need-returns
-unfolding blockLeaves
+unfolding blockOutLeaves
 returns c = rw (bad-output (now (c .before .before .before .args .file)) _ _ (c .if1 .taken)) (refl, refl)
 
 check-for-requires : tie.Need-check-for-requires
@@ -41,7 +41,7 @@ number-requires : tie.Need-number-requires
 number-requires c κs = search needs
 
 returns-2 : tie.Need-returns-2
-unfolding blockLeaves
+unfolding blockOutLeaves
 returns-2 c =
     let asked = c .before .before in
     let start = asked .before .before .before .before in
@@ -49,13 +49,13 @@ returns-2 c =
     let refused : numberOf (asked .check-for .result) ≡ 0 → ⊥ = λ e. c .if2 .taken (c .before .number .ensures ∙ e) in
     let file = asked .check-for .ensures .0 refused in
     let bad = block-refused l (start .args .b) (now (start .args .output)) (omega arith) (λ e. refused (ap numberOf file ∙ e)) in
-    (file ∙ sym bad, sym (left-refused (fileAnswer (blockTests l (start .args .b) (now (start .args .output)))) (blockIn l (start .args .b)) (now (start .args .output)) (λ e. refused (ap numberOf (file ∙ sym bad) ∙ e))))
+    (file ∙ sym bad, sym (left-refused (fileAnswer (blockOutTests l (start .args .b) (now (start .args .output)))) (blockIn l (start .args .b)) (now (start .args .output)) (λ e. refused (ap numberOf (file ∙ sym bad) ∙ e))))
 
 count-requires : tie.Need-count-requires
 count-requires c κs = search needs
 
 returns-3 : tie.Need-returns-3
-unfolding blockLeaves
+unfolding blockOutLeaves
 returns-3 c =
     let at = c .before in
     let start = at .before .before .before .before .before .before .before in
@@ -65,8 +65,8 @@ returns-3 c =
     let done = file-done l (start .args .b) (others .0) (others .1 .0) (others .1 .1) (λ h. absurd (omega arith)) in
     rw (block-beyond l (start .args .b) (now (start .args .output)) (omega arith) done high) (refl, refl)
 
-lay-down-requires : tie.Need-lay-down-requires
-lay-down-requires c κs =
+lay-numbered-requires : tie.Need-lay-numbered-requires
+lay-numbered-requires c κs =
     let at = c .before .before in
     (rest (at .before) .0, (omega (arith, count-is at, c .before .if3 .left), search needs))
 
@@ -82,8 +82,8 @@ returns-4 c =
     let output = now (start .args .output) in
     let others = rest (at .before) in
     let low : b < count l = omega (arith, count-is at, c .before .before .before .before .if3 .left) in (
-      c .before .before .lay-down .ensures .0 ∙ sym (block-decides l b (others .0) (others .1 .0) (others .1 .1) output (omega arith) low),
-      c .before .before .lay-down .ensures .1 ∙ sym (block-leaves l b (others .0) (others .1 .0) (others .1 .1) output (omega arith) low),
+      c .before .before .lay-numbered .ensures .0 ∙ sym (block-decides l b (others .0) (others .1 .0) (others .1 .1) output (omega arith) low),
+      c .before .before .lay-numbered .ensures .1 ∙ sym (block-leaves l b (others .0) (others .1 .0) (others .1 .1) output (omega arith) low),
     )
 
 pub block-out-spec : {M : Type 1} → statement M
@@ -96,6 +96,6 @@ block-out-spec =
     returns-2
     count-requires
     returns-3
-    lay-down-requires
+    lay-numbered-requires
     same-length
     returns-4)

@@ -1,4 +1,4 @@
--- `files::laid_row` meets its contract: what `lay_down` left at the place, or its refusal.
+-- `files::laid_row` meets its contract: what `lay_numbered` left at the place, or its refusal.
 -- Assumes nothing.
 use mathlib.Core.Path.{_≡_, refl, sym, ap, _∙_}
 use denote.Ref.{now}
@@ -10,11 +10,11 @@ use Rattle.files.proofs.Files.{goodIn}
 use Rattle.files.proofs.laid_row.Statement.{statement}
 use Rattle.files.proofs.laid_row.Tie as tie
 
-slice-aggregate-lay-down : tie.Need-slice-aggregate-lay-down
-slice-aggregate-lay-down c = search needs
+slice-aggregate-lay-numbered : tie.Need-slice-aggregate-lay-numbered
+slice-aggregate-lay-numbered c = search needs
 
-lay-down-requires : tie.Need-lay-down-requires
-lay-down-requires c κs = search needs
+lay-numbered-requires : tie.Need-lay-numbered-requires
+lay-numbered-requires c κs = search needs
 
 number-requires : tie.Need-number-requires
 number-requires c κs = search needs
@@ -24,7 +24,7 @@ returns c =
     let done = c .before .before .before in
     let start = done .before .before .before in
     let l = now (start .args .file) in
-    laid-refused _ (start .args .b) (goodIn l (start .args .b)) _ (done .lay-down .ensures .0) (λ e. c .if1 .taken (c .before .number .ensures ∙ e))
+    laid-refused _ (start .args .b) (goodIn l (start .args .b)) _ (done .lay-numbered .ensures .0) (λ e. c .if1 .taken (c .before .number .ensures ∙ e))
 
 mul-t8 : tie.Need-mul-t8
 mul-t8 c = search needs
@@ -38,14 +38,14 @@ returns-2 c =
     let start = done .before .before .before in
     let l = now (start .args .file) in
     let b = start .args .b in
-    laid-found _ b (goodIn l b) (start .args .place) (blockIn l b) (replicate 1024 0) _ (done .lay-down .ensures .0) (done .lay-down .ensures .1) (sym (c .before .number .ensures) ∙ c .if1 .left)
+    laid-found _ b (goodIn l b) (start .args .place) (blockIn l b) (replicate 1024 0) _ (done .lay-numbered .ensures .0) (done .lay-numbered .ensures .1) (sym (c .before .number .ensures) ∙ c .if1 .left)
 
 pub laid-row-spec : {M : Type 1} → statement M
 laid-row-spec =
     tie.close
     (tie.spec
-    slice-aggregate-lay-down
-    lay-down-requires
+    slice-aggregate-lay-numbered
+    lay-numbered-requires
     number-requires
     returns
     mul-t8

@@ -10,8 +10,8 @@ use borrow.Author.Needs.{needs}
 use Rattle.listing.proofs.lay_both.Statement.{statement}
 use Rattle.listing.proofs.lay_both.Tie as tie
 
-block-of-requires : tie.Need-block-of-requires
-block-of-requires c κs = search needs
+held-block-requires : tie.Need-held-block-requires
+held-block-requires c κs = search needs
 
 number-requires : tie.Need-number-requires
 number-requires c κs = search needs
@@ -28,11 +28,11 @@ same-length-2 c = search needs
 returns : tie.Need-returns
 returns c =
     let args = c .before .before .before .before .before .before .before .before .before .before .before .before .before .before .before .before .before .before .args in
-    let is = left-laid-bad (args .state) (now (args .left-front)) (now (args .right-front)) (now (args .out)) (now (args .left-body)) (now (args .right-body)) (tests-same (now (args .left-front)) (args .state .number) (now (args .left-body)) (now (args .left)) (c .before .before .before .before .before .before .before .before .before .before .before .before .before .before .before .before .before .before .pre .1 .0) (c .before .before .before .before .before .before .before .before .block-of .ensures .0)) (λ z. c .before .before .before .before .if1 .taken (c .before .before .before .before .before .number .ensures ∙ z)) in
+    let is = left-laid-bad (args .state) (now (args .left-front)) (now (args .right-front)) (now (args .out)) (now (args .left-body)) (now (args .right-body)) (tests-same (now (args .left-front)) (args .state .number) (now (args .left-body)) (now (args .left)) (c .before .before .before .before .before .before .before .before .before .before .before .before .before .before .before .before .before .before .pre .1 .0) (c .before .before .before .before .before .before .before .before .held-block .ensures .0)) (λ z. c .before .before .before .before .if1 .taken (c .before .before .before .before .before .number .ensures ∙ z)) in
     (c .before .before .refuse .ensures .0 ∙ sym (ap turnOf is), c .before .before .refuse .ensures .1 ∙ sym (ap (λ g. g .out) is))
 
-block-of-requires-2 : tie.Need-block-of-requires-2
-block-of-requires-2 c κs = search needs
+held-block-requires-2 : tie.Need-held-block-requires-2
+held-block-requires-2 c κs = search needs
 
 number-requires-2 : tie.Need-number-requires-2
 number-requires-2 c κs = search needs
@@ -52,7 +52,7 @@ same-length-5 c = search needs
 returns-2 : tie.Need-returns-2
 returns-2 c =
     let args = c .before .before .before .before .before .before .before .before .before .before .before .before .before .before .before .before .before .before .before .before .before .before .before .before .args in
-    let is = right-laid-bad (args .state) (now (args .left-front)) (now (args .right-front)) (now (args .out)) (now (args .left-body)) (now (args .right-body)) (tests-same (now (args .left-front)) (args .state .number) (now (args .left-body)) (now (args .left)) (c .before .before .before .before .before .before .before .before .before .before .before .before .before .before .before .before .before .before .before .before .before .before .before .before .pre .1 .0) (c .before .before .before .before .before .before .before .before .before .before .before .before .before .before .block-of .ensures .0)) (sym (c .before .before .before .before .before .before .before .before .before .before .before .number .ensures) ∙ c .before .before .before .before .before .before .before .before .before .before .if1 .left) (tests-same (now (args .right-front)) (args .state .number) (now (args .right-body)) (now (args .right)) (c .before .before .before .before .before .before .before .before .before .before .before .before .before .before .before .before .before .before .before .before .before .before .before .before .pre .1 .1 .0) (c .before .before .before .before .before .before .before .before .block-of2 .ensures .0)) (λ z. c .before .before .before .before .if2 .taken (c .before .before .before .before .before .number2 .ensures ∙ z)) in
+    let is = right-laid-bad (args .state) (now (args .left-front)) (now (args .right-front)) (now (args .out)) (now (args .left-body)) (now (args .right-body)) (tests-same (now (args .left-front)) (args .state .number) (now (args .left-body)) (now (args .left)) (c .before .before .before .before .before .before .before .before .before .before .before .before .before .before .before .before .before .before .before .before .before .before .before .before .pre .1 .0) (c .before .before .before .before .before .before .before .before .before .before .before .before .before .before .held-block .ensures .0)) (sym (c .before .before .before .before .before .before .before .before .before .before .before .number .ensures) ∙ c .before .before .before .before .before .before .before .before .before .before .if1 .left) (tests-same (now (args .right-front)) (args .state .number) (now (args .right-body)) (now (args .right)) (c .before .before .before .before .before .before .before .before .before .before .before .before .before .before .before .before .before .before .before .before .before .before .before .before .pre .1 .1 .0) (c .before .before .before .before .before .before .before .before .held-block2 .ensures .0)) (λ z. c .before .before .before .before .if2 .taken (c .before .before .before .before .before .number2 .ensures ∙ z)) in
     (c .before .before .refuse2 .ensures .0 ∙ sym (ap turnOf is), c .before .before .refuse2 .ensures .1 ∙ sym (ap (λ g. g .out) is))
 
 compare-laid-requires : tie.Need-compare-laid-requires
@@ -75,12 +75,12 @@ returns-3 c =
     let args = c .before .before .before .before .before .before .before .before .before .before .before .before .before .before .before .before .before .before .before .before .before .before .before .before .before .before .before .before .before .args in
     let left-done = sym (c .before .before .before .before .before .before .before .before .before .before .before .before .before .before .before .before .number .ensures) ∙ c .before .before .before .before .before .before .before .before .before .before .before .before .before .before .before .if1 .left in
     let right-done = sym (c .before .before .before .before .before .before .before .before .before .before .number2 .ensures) ∙ c .before .before .before .before .before .before .before .before .before .if2 .left in
-    let is = laid-good (args .state) (now (args .left-front)) (now (args .right-front)) (now (args .out)) (now (args .left-body)) (now (args .right-body)) (tests-same (now (args .left-front)) (args .state .number) (now (args .left-body)) (now (args .left)) (c .before .before .before .before .before .before .before .before .before .before .before .before .before .before .before .before .before .before .before .before .before .before .before .before .before .before .before .before .before .pre .1 .0) (c .before .before .before .before .before .before .before .before .before .before .before .before .before .before .before .before .before .before .before .block-of .ensures .0)) left-done (tests-same (now (args .right-front)) (args .state .number) (now (args .right-body)) (now (args .right)) (c .before .before .before .before .before .before .before .before .before .before .before .before .before .before .before .before .before .before .before .before .before .before .before .before .before .before .before .before .before .pre .1 .1 .0) (c .before .before .before .before .before .before .before .before .before .before .before .before .before .block-of2 .ensures .0)) right-done in
-    let left-is = laid-as (now (args .left-front)) (args .state .number) (now (args .left-body)) (now (args .left)) (c .before .before .before .before .before .before .before .before .before .before .before .before .before .before .before .before .before .before .before .before .before .before .before .before .before .before .before .before .before .pre .1 .0) (c .before .before .before .before .before .before .before .before .before .before .before .before .before .before .before .before .before .before .before .block-of .ensures .0) left-done (c .before .before .before .before .before .before .before .before .before .before .before .before .before .before .before .before .before .before .before .block-of .ensures .1) in
-    let right-is = laid-as (now (args .right-front)) (args .state .number) (now (args .right-body)) (now (args .right)) (c .before .before .before .before .before .before .before .before .before .before .before .before .before .before .before .before .before .before .before .before .before .before .before .before .before .before .before .before .before .pre .1 .1 .0) (c .before .before .before .before .before .before .before .before .before .before .before .before .before .block-of2 .ensures .0) right-done (c .before .before .before .before .before .before .before .before .before .before .before .before .before .block-of2 .ensures .1) in (
+    let is = laid-good (args .state) (now (args .left-front)) (now (args .right-front)) (now (args .out)) (now (args .left-body)) (now (args .right-body)) (tests-same (now (args .left-front)) (args .state .number) (now (args .left-body)) (now (args .left)) (c .before .before .before .before .before .before .before .before .before .before .before .before .before .before .before .before .before .before .before .before .before .before .before .before .before .before .before .before .before .pre .1 .0) (c .before .before .before .before .before .before .before .before .before .before .before .before .before .before .before .before .before .before .before .held-block .ensures .0)) left-done (tests-same (now (args .right-front)) (args .state .number) (now (args .right-body)) (now (args .right)) (c .before .before .before .before .before .before .before .before .before .before .before .before .before .before .before .before .before .before .before .before .before .before .before .before .before .before .before .before .before .pre .1 .1 .0) (c .before .before .before .before .before .before .before .before .before .before .before .before .before .held-block2 .ensures .0)) right-done in
+    let left-is = laid-as (now (args .left-front)) (args .state .number) (now (args .left-body)) (now (args .left)) (c .before .before .before .before .before .before .before .before .before .before .before .before .before .before .before .before .before .before .before .before .before .before .before .before .before .before .before .before .before .pre .1 .0) (c .before .before .before .before .before .before .before .before .before .before .before .before .before .before .before .before .before .before .before .held-block .ensures .0) left-done (c .before .before .before .before .before .before .before .before .before .before .before .before .before .before .before .before .before .before .before .held-block .ensures .1) in
+    let right-is = laid-as (now (args .right-front)) (args .state .number) (now (args .right-body)) (now (args .right)) (c .before .before .before .before .before .before .before .before .before .before .before .before .before .before .before .before .before .before .before .before .before .before .before .before .before .before .before .before .before .pre .1 .1 .0) (c .before .before .before .before .before .before .before .before .before .before .before .before .before .held-block2 .ensures .0) right-done (c .before .before .before .before .before .before .before .before .before .before .before .before .before .held-block2 .ensures .1) in (
       c .before .before .before .before .compare-laid .ensures .0 ∙ ap₂ (λ x y. turnOf (compared (args .state) (now (args .left-front)) (now (args .right-front)) x y (now (args .out)))) left-is right-is ∙ sym (ap turnOf is),
       c .before .before .before .before .compare-laid .ensures .1 ∙ ap₂ (λ x y. compared (args .state) (now (args .left-front)) (now (args .right-front)) x y (now (args .out)) .out) left-is right-is ∙ sym (ap (λ g. g .out) is),
     )
 
 pub lay-both-spec : {M : Type 1} → statement M
-lay-both-spec = tie.close (tie.spec block-of-requires number-requires refuse-requires same-length same-length-2 returns block-of-requires-2 number-requires-2 refuse-requires-2 same-length-3 same-length-4 same-length-5 returns-2 compare-laid-requires same-length-6 same-length-7 same-length-8 same-length-9 returns-3)
+lay-both-spec = tie.close (tie.spec held-block-requires number-requires refuse-requires same-length same-length-2 returns held-block-requires-2 number-requires-2 refuse-requires-2 same-length-3 same-length-4 same-length-5 returns-2 compare-laid-requires same-length-6 same-length-7 same-length-8 same-length-9 returns-3)

@@ -1,12 +1,12 @@
--- `fascjoldi_body_block_out` gives and leaves what `block_of` does.
+-- `fascjoldi_body_block_out` gives and leaves what `held_block` does.
 -- Assumes nothing.
 use borrow.Author.Needs.{needs}
 use Rattle.exports.proofs.FileHanded.{file-on}
 use Rattle.exports.proofs.columns.fascjoldi_body_block_out.Statement.{statement}
 use Rattle.exports.proofs.columns.fascjoldi_body_block_out.Tie as tie
 
-block-of-requires : tie.Need-block-of-requires
-block-of-requires c κs = search needs
+held-block-requires : tie.Need-held-block-requires
+held-block-requires c κs = search needs
 
 hand-requires : tie.Need-hand-requires
 hand-requires c κs = search needs
@@ -19,4 +19,4 @@ returns c = search (needs, file-on)
 
 pub fascjoldi-body-block-out-spec : {M : Type 1} → statement M
 fascjoldi-body-block-out-spec =
-    tie.close (tie.spec block-of-requires hand-requires same-length returns)
+    tie.close (tie.spec held-block-requires hand-requires same-length returns)

@@ -1,4 +1,4 @@
--- `files::lay_down` meets its contract: behind right contents the answer of `block_of` tells of the run indices alone.
+-- `files::lay_numbered` meets its contract: behind right contents the answer of `block_of` tells of the run indices alone.
 -- Assumes nothing.
 use mathlib.Core.Path.{_≡_, sym, ap, _∙_}
 use denote.Ref.{now}
@@ -11,8 +11,8 @@ use Rattle.files.specs.Files.{blockIn}
 use Rattle.files.specs.Froms.{fromLeaves}
 use Rattle.files.proofs.Files.{goodIn, tested-done}
 use Rattle.files.proofs.Froms.{from-tested, from-left}
-use Rattle.files.proofs.lay_down.Statement.{statement}
-use Rattle.files.proofs.lay_down.Tie as tie
+use Rattle.files.proofs.lay_numbered.Statement.{statement}
+use Rattle.files.proofs.lay_numbered.Tie as tie
 
 -- the answer is done exactly where the run indices are in range,
 answer-is : (c : tie.After-block-from) → isDone (c .block-from .result) ≡ goodIn (now (c .before .before .before .before .before .args .file)) (c .before .before .before .before .before .args .b)
@@ -61,8 +61,8 @@ returns-2 c =
     let good = sym (answer-is done) ∙ eq-eqb _ 0 (sym (c .before .number .ensures) ∙ c .if1 .left) in
     (ap (λ t. pick t Done (Runs (got .before .before .before .args .b))) (sym good), done .block-from .ensures .1 ∙ left-is got)
 
-pub lay-down-spec : {M : Type 1} → statement M
-lay-down-spec =
+pub lay-numbered-spec : {M : Type 1} → statement M
+lay-numbered-spec =
     tie.close
     (tie.spec
     body-start-requires

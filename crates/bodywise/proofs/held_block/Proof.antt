@@ -1,4 +1,4 @@
--- `bodywise::block_of` meets its contract: the block is laid down from its body, and a refusal gets its place.
+-- `bodywise::held_block` meets its contract: the block is laid down from its body, and a refusal gets its place.
 -- Assumes nothing.
 use mathlib.Core.Path.{_≡_, sym, ap, _∙_}
 use Prim.Native.Nat.{ℕ}
@@ -11,8 +11,8 @@ use Rattle.contents.proofs.Answers.{passed, stopped}
 use Rattle.bodies.specs.Bodies.{blockTests, blockLeaves}
 use Rattle.bodywise.specs.InnerPlaced.{inBlock}
 use Rattle.bodywise.proofs.Steps.{entry-first, entry-passed, block-refused, block-placed, block-left}
-use Rattle.bodywise.proofs.block_of.Statement.{statement}
-use Rattle.bodywise.proofs.block_of.Tie as tie
+use Rattle.bodywise.proofs.held_block.Statement.{statement}
+use Rattle.bodywise.proofs.held_block.Tie as tie
 
 returns : tie.Need-returns
 returns c =
@@ -64,8 +64,8 @@ returns-3 c =
       laid .block-of .ensures .1 ∙ ap (λ e. blockLeaves e body block) (read .entry-or .ensures) ∙ block-left front (args .i) body block long right,
     )
 
-pub block-of-spec : {M : Type 1} → statement M
-block-of-spec =
+pub held-block-spec : {M : Type 1} → statement M
+held-block-spec =
     tie.close
     (tie.spec
     returns
