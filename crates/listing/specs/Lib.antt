@@ -1,2 +1,3 @@
+pub mod InnerSame
 pub mod Machine
 pub mod Text

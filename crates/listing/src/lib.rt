@@ -20,14 +20,18 @@ use compare::blocks_in_both;
 use compare::change_at;
 use compare::differing;
 use compare::same_range;
+use contents::Entry;
 use contents::FileAnswer;
 use contents::count;
+use contents::entry_or;
+use contents::has_right_entry;
 use text::put_change;
 use text::put_last;
 use text::put_refusal;
 use wishes::Part;
 use wishes::Side;
 use wishes::Wish;
+ghost use mathlib.Core.Bool.{true};
 ghost use mathlib.Core.Path.{_≡_};
 ghost use Prim.Native.Nat.{_+_, _≤_, _<_, min};
 ghost use lib.ListN.{length};
@@ -35,6 +39,7 @@ ghost use Rattle.lists.specs.Tab.{over};
 ghost use Rattle.places.specs.Sizes.{largestU64};
 ghost use Rattle.compare.specs.Changes.{differing as differingIn, changesIn};
 ghost use Rattle.wishes.specs.Runs.{held};
+ghost use Rattle.listing.specs.InnerSame.{SameBody};
 ghost use Rattle.listing.specs.Text.{linesOf};
 ghost use Rattle.listing.specs.Machine.{turnOf, turnTo, refusal, startOf, mostTurns, askHead, askFront, bodyWish, atBody, atBodies, between as betweenBlocks, past as pastBlock, askBody, behind as behindFile, goTo, checkFront, checkBody, afterHead, afterFront, afterBody, begin as beginning, goOn, askAgain, listed, compared, bothLaid, bothThere, again as afterAgain, nextOf};
 
@@ -475,7 +480,8 @@ fn both_there(
     )
 }
 
-// Lays both blocks down. A file that has changed since it was checked is refused.
+// Lays both blocks down. A file that has changed since it was checked is refused. Where both files have the same body, the right block
+// is the left one, and no row differs.
 fn lay_both(
     state: State,
     left_front: &[u8],
@@ -499,11 +505,64 @@ fn lay_both(
     if answer.number() != 0 {
         return refuse(state, Side::Left, answer, out);
     }
+    if same_body(state.number, left_front, right_front, left_body, right_body) {
+        return list(state, left_front, right_front, left, left, places, 0, out);
+    }
     let answer = held_block(right_front, state.number, right_body, right);
     if answer.number() != 0 {
         return refuse(state, Side::Right, answer, out);
     }
     compare_laid(state, left_front, right_front, left, right, places, out)
+}
+
+// Whether both files say the same of block i, and it has the same body in both.
+fn same_body(
+    i: usize,
+    left_front: &[u8],
+    right_front: &[u8],
+    left_body: &[u8],
+    right_body: &[u8],
+) -> bool
+    ensures { λ r. ⌜ (r ≡ true → SameBody i (now («left_front» .entry)) (now («right_front» .entry)) (now («left_body» .entry)) (now («right_body» .entry))) ⌝ }
+{
+    if !has_right_entry(left_front, i) {
+        return false;
+    }
+    if !has_right_entry(right_front, i) {
+        return false;
+    }
+    if !same_entry(entry_or(left_front, i), entry_or(right_front, i)) {
+        return false;
+    }
+    if !same_range(left_front, right_front, i) {
+        return false;
+    }
+    same_bytes(left_body, right_body)
+}
+
+// Whether two entries are the same. The tests are joined by `&`, which makes no branch.
+fn same_entry(a: Entry, b: Entry) -> bool
+    ensures { λ r. ⌜ (r ≡ true → a ≡ b) ⌝ }
+{
+    (a.kind == b.kind)
+        & ((a.width == b.width)
+            & ((a.zero == b.zero) & ((a.length == b.length) & (a.reference == b.reference))))
+}
+
+// Whether two buffers hold the same bytes. What is apart at each place is joined by `|`, so that there is no branch for a place.
+fn same_bytes(a: &[u8], b: &[u8]) -> bool
+    ensures { λ r. ⌜ (r ≡ true → now (a .entry) ≡ now (b .entry)) ⌝ }
+{
+    if a.len() != b.len() {
+        return false;
+    }
+    let mut any: u8 = 0;
+    let mut i = 0;
+    while i < a.len() {
+        any = any | (a[i] ^ b[i]);
+        i += 1;
+    }
+    any == 0
 }
 
 // Compares both blocks, which are laid down. Their ranges are looked at again where a row is listed, and where the files do not
