@@ -230,14 +230,7 @@ pub fn same_bytes(one: &[u8], other: &[u8], n: usize) -> bool
     if other.len() < n {
         return false;
     }
-    let mut i = 0;
-    while i < n {
-        if one[i] != other[i] {
-            return false;
-        }
-        i += 1;
-    }
-    true
+    check::same(&one[..n], &other[..n])
 }
 
 // How many cases were replayed, how many of them differ, and of the first that differs its number and its call.

@@ -1,66 +1,41 @@
--- `stream::same_bytes` meets its contract. The loop's invariant: the first i bytes are the same.
+-- `stream::same_bytes` meets its contract: the kit's comparison says whether the two fronts are the same.
 -- Assumes nothing.
-use mathlib.Core.Path.{_≡_}
-use Prim.Native.Nat.{ℕ, _-_, _≤_, zero-le}
+use mathlib.Core.Path.{sym}
 use native.Mathlib.Omega.{arith}
+use lib.Seq.{length-take-le}
 use borrow.Author.Needs.{needs}
-use borrow.Author.Count.{below-none, below-more}
-use Rattle.stream.specs.Expected.{Agree}
-use Rattle.stream.proofs.Compared.{no, yes}
+use Rattle.stream.proofs.Compared.{no, front-agrees, agrees-front}
 use Rattle.stream.proofs.same_bytes.Statement.{statement}
 use Rattle.stream.proofs.same_bytes.Tie as tie
 
-abbrev Inv-loop : tie.InvT-loop
-Inv-loop one other n i₀ i = (i ≤ n) × Agree i one other
-
-abbrev μ-loop : tie.MeasureT-loop
-μ-loop one other n i₀ i = n - i
-
-returns : tie.Need-returns Inv-loop μ-loop
+returns : tie.Need-returns
 returns c = no (λ p q a. omega arith)
 
-returns-2 : tie.Need-returns-2 Inv-loop μ-loop
+returns-2 : tie.Need-returns-2
 returns-2 c = no (λ p q a. omega arith)
 
-loop-holds : tie.Need-loop-holds Inv-loop μ-loop
-loop-holds c = (zero-le, below-none _)
+slice-aggregate-same : tie.Need-slice-aggregate-same
+slice-aggregate-same c = sym (length-take-le _ _ (omega arith))
 
-shared-slice-read-if3 : tie.Need-shared-slice-read-if3 Inv-loop μ-loop
-shared-slice-read-if3 c = search needs
+slice-aggregate-same-2 : tie.Need-slice-aggregate-same-2
+slice-aggregate-same-2 c = sym (length-take-le _ _ (omega arith))
 
-shared-slice-read-if3-2 : tie.Need-shared-slice-read-if3-2 Inv-loop μ-loop
-shared-slice-read-if3-2 c = search needs
+same-requires : tie.Need-same-requires
+same-requires c κs = search needs
 
-returns-3 : tie.Need-returns-3 Inv-loop μ-loop
-returns-3 c = no (λ p q a. c .if3 .taken (a _ (omega arith)))
-
-add-i : tie.Need-add-i Inv-loop μ-loop
-add-i c = search needs
-
-loop-less : tie.Need-loop-less Inv-loop μ-loop
-loop-less c = search needs
-
-loop-again : tie.Need-loop-again Inv-loop μ-loop
-loop-again c = (omega arith, below-more _ _ (c .before .before .before .before .loop .inv .1) (c .if3 .left))
-
-returns-4 : tie.Need-returns-4 Inv-loop μ-loop
-returns-4 c =
-    let e : c .before .loop .i ≡ c .before .before .before .before .args .n = omega arith in
-    yes (omega arith) (omega arith) (rw e at (c .before .loop .inv .1))
+returns-3 : tie.Need-returns-3
+returns-3 c = (
+  λ t. (omega arith, omega arith, front-agrees _ _ _ (omega arith) (omega arith) (c .same .ensures .0 t)),
+  λ p q a. c .same .ensures .1 (agrees-front _ _ _ p q a),
+)
 
 pub same-bytes-spec : {M : Type 1} → statement M
 same-bytes-spec =
     tie.close
     (tie.spec
-    Inv-loop
-    μ-loop
     returns
     returns-2
-    loop-holds
-    shared-slice-read-if3
-    shared-slice-read-if3-2
-    returns-3
-    add-i
-    loop-less
-    loop-again
-    returns-4)
+    slice-aggregate-same
+    slice-aggregate-same-2
+    same-requires
+    returns-3)
