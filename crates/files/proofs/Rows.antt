@@ -40,7 +40,7 @@ use Rattle.bodies.proofs.Blocks.{packed-value}
 use Rattle.bodies.proofs.Bodies.{length-numbers, laid-plain}
 use Rattle.files.specs.declared.Row.{Row}
 use Rattle.files.specs.declared.Row.the-variants.{Counted, Uncounted, Refused}
-use Rattle.files.specs.Files.{bodyOf, badRuns, hasTrueRange, badRange, blockIn, rowCount, rowAt, rowsOf, fileTests, rowTests, blockLeaves}
+use Rattle.files.specs.Files.{bodyOf, badRuns, hasTrueRange, badRange, blockIn, rowCount, rowAt, rowsOf, fileTests, rowTests, blockOutLeaves}
 use Rattle.files.specs.Rows.{answerOf, valueOf, given, rowOf}
 use Rattle.files.proofs.Calls.{row-as-block, row-laid, row-done, block-done}
 use Rattle.files.proofs.Ranges.{file-block}
@@ -77,8 +77,8 @@ module _ (l : List ℕ) where
   -- In an accepted file the lookup of a row gives that row, which is what one block out leaves at its place.
   pub row-block : fileAnswer (fileTests l) ≡ Done → (p : ℕ) → p < 1024 * count l → (output : List ℕ) → length output ≡ 1024
       → (rowOf l p ≡ given (entryOf l (p / 1024)) (p % 1024) (getD (rowsOf l) p 0))
-      × (rowOf l p ≡ given (entryOf l (p / 1024)) (p % 1024) (getD (blockLeaves l (p / 1024) output) (p % 1024) 0))
-  unfolding blockLeaves rowAt
+      × (rowOf l p ≡ given (entryOf l (p / 1024)) (p % 1024) (getD (blockOutLeaves l (p / 1024) output) (p % 1024) 0))
+  unfolding blockOutLeaves rowAt
   row-block done p h output e =
       let out = block-done l (p / 1024) output e done (omega arith) in
       let given-as = given (entryOf l (p / 1024)) (p % 1024) in
