@@ -4,11 +4,11 @@
 use mathlib.Core.Bool.{Bool, true}
 use mathlib.Core.List.{List, [], _∷_}
 use mathlib.Core.Path.{_≡_, refl, sym, ap, ap₂, _∙_}
-use Prim.Native.Nat.{ℕ, suc, _+_, _≤_, _<_}
+use Prim.Native.Nat.{ℕ, _+_, _≤_, _<_}
 use native.Mathlib.Decide.{decLe}
 use native.Mathlib.Omega.{arith}
 use lib.Bits.{bitOr, bitXor, or-add-and, and-le-l, and-le-r, xor-add-and}
-use lib.Dec.{eqb}
+use lib.Dec.{eqb, leb}
 use lib.ListN.{length, getD}
 use lib.Seq.{ext-getD}
 use borrow.Author.Tests.{eq-eqb, eqb-true}
@@ -19,10 +19,11 @@ use Rattle.lists.proofs.Tests.{both-true}
 use Rattle.lists.proofs.Failing.{failing-none}
 use Rattle.contents.specs.declared.Entry.{Entry}
 use Rattle.contents.specs.declared.FileAnswer.{FileAnswer}
-use Rattle.contents.specs.Answers.{FileTest, enough, laid-out, an-end, good-runs, fileAnswer, numberOf}
+use Rattle.contents.specs.declared.FileAnswer.the-variants.{Cut, BadEntry, Over, Runs}
+use Rattle.contents.specs.Answers.{FileTest, fileAnswer, numberOf}
 use Rattle.contents.specs.Contents.{entryOr, hasRightEntry}
 use Rattle.bodies.specs.Bodies.{blockOf, hasGoodRuns}
-use Rattle.bodywise.specs.Steps.{lowestAt, bodyTests}
+use Rattle.bodywise.specs.Steps.{bodyTests}
 use Rattle.compare.specs.Changes.{differing, isSameAt}
 use Rattle.listing.specs.declared.State.{State}
 use Rattle.listing.specs.InnerSame.{SameBody}
@@ -90,10 +91,10 @@ none-noted l places = ap (λ d. over 0 d places) (none-differ l) ∙ over-nothin
 -- the tests of a body, by what its file says of it
 abbrev testsFor : (i : ℕ) (right : Bool) (e : Entry) (body : List ℕ) → List FileTest
 testsFor i right e body =
-    laid-out (lowestAt i right) (suc i)
-    ∷ enough (e .length) (length body)
-    ∷ an-end (e .length) (length body)
-    ∷ good-runs (lowestAt i (hasGoodRuns e body)) (suc i)
+    (right, BadEntry i)
+    ∷ (leb (e .length) (length body), Cut)
+    ∷ (leb (length body) (e .length), Over)
+    ∷ (hasGoodRuns e body, Runs i)
     ∷ []
 
 -- The right body is answered as the left one, and stands for the same block.
