@@ -19,6 +19,7 @@ struct beside {
 struct search {
     const struct task *task;
     const char *name;
+    struct bytes prefix; /* what each line begins with */
     struct source source;
     struct front front;
     uint64_t *block;
@@ -73,15 +74,15 @@ static void beside_close(struct beside *beside)
 static void add_found(struct search *search, uint64_t row, struct bytes *out)
 {
     size_t place = row % BLOCK;
-    add_name(out, search->name, search->task->is_named);
+    bytes_add(out, search->prefix.at, search->prefix.length);
     bytes_number(out, search->before + row);
-    bytes_text(out, " ");
+    bytes_byte(out, ' ');
     bytes_number(out, search->block[place]);
     for (size_t i = 0; i < search->beside_count; i++) {
-        bytes_text(out, " ");
+        bytes_byte(out, ' ');
         bytes_number(out, search->beside[i].block[place]);
     }
-    bytes_text(out, "\n");
+    bytes_byte(out, '\n');
 }
 
 static bool search_block(struct search *search, const struct cursor *cursor, struct result *result)
@@ -145,7 +146,7 @@ static void search_front(struct search *search, struct result *result)
         result->rows = search->found;
         result->blocks = search->opened;
         if (!task->is_quiet && !task->is_as_one) {
-            add_name(&result->out, search->name, task->is_named);
+            bytes_add(&result->out, search->prefix.at, search->prefix.length);
             add_counts(&result->out, search->found, search->opened, search->front.blocks);
         }
     }
@@ -168,12 +169,15 @@ static void find_one(const struct task *task, size_t which, const void *more, st
     if (!source_open(&search.source, search.name, result))
         return;
     if (front_read(&search.front, &search.source, result)) {
+        bytes_begin(&search.prefix);
+        add_name(&search.prefix, search.name, task->is_named);
         search.block = room_for(BLOCK, sizeof(uint64_t));
         search.rows = room_for(BLOCK, sizeof(uint64_t));
         if (is_as_counted(&search, known, which))
             search_front(&search, result);
         else
             fail_changed(result, search.name);
+        bytes_free(&search.prefix);
         free(search.block);
         free(search.rows);
         front_free(&search.front);

@@ -71,6 +71,13 @@ void bytes_add(struct bytes *bytes, const void *from, size_t count)
     bytes->length += count;
 }
 
+void bytes_byte(struct bytes *bytes, char byte)
+{
+    if (bytes->length == bytes->size)
+        bytes_reserve(bytes, 1);
+    bytes->at[bytes->length++] = (uint8_t)byte;
+}
+
 void bytes_text(struct bytes *bytes, const char *text)
 {
     bytes_add(bytes, text, strlen(text));
@@ -79,7 +86,7 @@ void bytes_text(struct bytes *bytes, const char *text)
 void bytes_times(struct bytes *bytes, char byte, size_t count)
 {
     for (; count > 0; count--)
-        bytes_add(bytes, &byte, 1);
+        bytes_byte(bytes, byte);
 }
 
 void bytes_drop_front(struct bytes *bytes, size_t count)

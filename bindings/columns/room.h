@@ -22,6 +22,7 @@ void bytes_begin(struct bytes *bytes);
 void bytes_free(struct bytes *bytes);
 void bytes_reserve(struct bytes *bytes, size_t more);
 void bytes_add(struct bytes *bytes, const void *from, size_t count);
+void bytes_byte(struct bytes *bytes, char byte);
 void bytes_text(struct bytes *bytes, const char *text);
 void bytes_times(struct bytes *bytes, char byte, size_t count);
 void bytes_drop_front(struct bytes *bytes, size_t count);

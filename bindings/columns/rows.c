@@ -122,14 +122,18 @@ static void add_rows(
     struct whole *whole, const struct span *span, const char *name, bool is_named, struct result *result)
 {
     struct numbers numbers;
+    struct bytes prefix;
     numbers_begin(&numbers);
+    bytes_begin(&prefix);
+    add_name(&prefix, name, is_named);
     if (numbers_in(whole, span, &numbers, result)) {
         for (size_t i = 0; i < numbers.length; i++) {
-            add_name(&result->out, name, is_named);
+            bytes_add(&result->out, prefix.at, prefix.length);
             bytes_number(&result->out, numbers.at[i]);
-            bytes_text(&result->out, "\n");
+            bytes_byte(&result->out, '\n');
         }
     }
+    bytes_free(&prefix);
     numbers_free(&numbers);
 }
 
@@ -225,7 +229,7 @@ static int rows_side_by_side(const struct task *task)
                 bytes_text(&result.out, i == 0 ? "" : "\t");
                 bytes_number(&result.out, columns[i].at[row]);
             }
-            bytes_text(&result.out, "\n");
+            bytes_byte(&result.out, '\n');
         }
     }
     for (size_t i = 0; i < task->file_count; i++)

@@ -322,9 +322,7 @@ def races(checks, run):
                     run.begun(*words, there.name, odd=odd, stdin=subprocess.PIPE, stderr=subprocess.PIPE) for _ in texts
                 ]
                 for one, text in zip(runs, texts):
-                    one.stdin.write(text)
-                for one in runs:
-                    one.stdin.close()
+                    feed(one, text)
                 said = [(one.wait(60), one.stderr.read()) for one in runs]
                 for one in runs:
                     one.stderr.close()
@@ -516,6 +514,7 @@ def kills(checks, run, count):
 
 
 def feed(started, text):
+    """All of the input, as far as it is taken: one who finds the name taken does not read it."""
     try:
         started.stdin.write(text)
         started.stdin.close()
