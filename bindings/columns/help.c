@@ -51,7 +51,7 @@ static const struct page pages[] = {
      "\n"
      "The result goes to standard output in whole lines, and complaints go to standard error.\n"
      "A refusal is 'FILE: refused X Y: ' and a sentence: X is the number of the reason, which\n"
-     "docs/FORMAT.md lists, and Y the place.\n"
+     "columns(1) lists, and Y the place.\n"
      "\n"
      "Exit status: 0 done; 1 nothing was found, or there is a difference (find, canonical,\n"
      "changes); 2 something was refused or failed. Of several files it is 2 where one is\n"

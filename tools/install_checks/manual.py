@@ -71,6 +71,15 @@ def in_step(checks, program, page, script):
         checks.same(f"the completion's options of {verb}", completed(script, verb, "-"), options | HELP)
 
 
+def numbers_in_step(checks, page, root):
+    """The manual has each number that the program has a sentence for, and no other."""
+    header, source = (root / "include/fascjoldi.h").read_text(), (root / "bindings/columns/result.c").read_text()
+    number_of = dict(re.findall(r"FASCJOLDI_(\w+) = (\d+),", header))
+    said = {number_of[name] for name in re.findall(r"FASCJOLDI_(\w+)\b", source) if name in number_of}
+    listed = re.findall(r"^\.It (\d+)$", sections(page)["DIAGNOSTICS"], flags=re.M)
+    checks.same("the manual's numbers of refusals", listed, sorted(said, key=int))
+
+
 def files_are_offered(checks, script, folder):
     place = folder / "names"
     place.mkdir()
