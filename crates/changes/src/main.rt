@@ -5,7 +5,8 @@
 //
 // What is read and what is written, and in which order, the machine of the crate listing says; here its wishes are granted one after
 // another. This is to be read beside `granted` and `runsBy` in the definitions of the crate wishes, which say the same of lists. A file
-// that does not open is one of no bytes, and so is one that cannot be read.
+// that does not open is one of no bytes, and so is one that cannot be read. A write that fails ends the run, since nothing could
+// be printed behind it: of that the definitions do not speak.
 use console::lines::write_out;
 use console::read::length_of;
 use console::read::read_at;

@@ -185,8 +185,8 @@ fn refuse(state: State, side: Side, answer: FileAnswer, out: &mut [u8]) -> Turn
     ensures { λ r. ⌜ r ≡ turnOf (refusal state side answer (now (out .entry))) ⌝ }
     ensures { λ _. ⌜ now (out .exit) ≡ refusal state side answer (now (out .entry)) .out ⌝ }
 {
-    let n = put_refusal(side, answer, out);
-    turn_to(state, Stage::End, Wish::Write(n))
+    let line = put_refusal(side, answer, out);
+    turn_to(state, Stage::End, Wish::Write(line))
 }
 
 // ---- the check

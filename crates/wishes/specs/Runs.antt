@@ -87,11 +87,15 @@ isWithin (Read side part at n) out = leb n (roomOf part)
 isWithin (Write n) out = leb n (length out)
 isWithin Done out = true
 
--- A wish is granted, and the run goes on. One that is not within its buffer is not granted: the run stops there.
+-- This is what is done with a wish, and then the run goes on: a read fills its buffer, and a write writes the front of the output.
+abbrev pub carriedOut : (l m : List ℕ) (wish : Wish) (h : Held) (out : List ℕ) (on : Held → Ran) → Ran
+carriedOut l m (Read side part at n) h out on = on (filled h side part (partAt (fileOn side l m) at n))
+carriedOut l m (Write n) h out on = before (take n out) (on h)
+carriedOut l m Done h out on = ends
+
+-- A wish that is within its buffer is granted. One that is not stops the run.
 abbrev pub granted : (l m : List ℕ) (wish : Wish) (h : Held) (out : List ℕ) (on : Held → Ran) → Ran
-granted l m (Read side part at n) h out on = pick (leb n (roomOf part)) (on (filled h side part (partAt (fileOn side l m) at n))) stops
-granted l m (Write n) h out on = pick (leb n (length out)) (before (take n out) (on h)) stops
-granted l m Done h out on = ends
+granted l m wish h out on = pick (isWithin wish out) (carriedOut l m wish h out on) stops
 
 -- A run of so many turns grants a wish in each, and takes the next turn.
 unfoldable pub runsBy : {S : Type 0} → (next : Machine S) (l m : List ℕ) (turns : ℕ) (g : Given S) (h : Held) → Ran
