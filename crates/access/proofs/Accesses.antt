@@ -1,5 +1,6 @@
--- The sentences of document 01, "The packed layout", about access, over the element size and the width: single access as unpack at its
--- place, and list access as single access entry by entry. Each law speaks of what the calls give and leave.
+-- The sentences of document 01, "The packed layout", about access, over the element size and the width: single access
+-- as unpack at its place, and list access as single access entry by entry. Each law speaks of what the calls give and
+-- leave.
 -- Assumes nothing.
 use mathlib.Core.Path.{_≡_, refl, sym, ap, ap₂, _∙_}
 use mathlib.Core.List.{List}
@@ -33,8 +34,8 @@ module _ (t w : ℕ) (packed indices output : List ℕ) where
   unfolding listGives
   list-counts = says-number (Words (listWords t w indices)) Refused wordsOf 0 (λ _. refl) (answerFor (listTakes t w packed indices output))
 
--- What an enum's two cases stand for, read back off the single answer, is the answer of the tests, and the value at the index where the call is
--- done.
+-- What an enum's two cases stand for, read back off the single answer, is the answer of the tests, and the value at the
+-- index where the call is done.
 module _ {S : Type 0} (value : ℕ → ℕ → S) (refused : Answer → S) (t w : ℕ) (packed : List ℕ) (index : ℕ) where
   given : S
   given = value (valueAt t w packed index) (countAt t w index)
@@ -75,7 +76,8 @@ module _ {S : Type 0} (value : ℕ → ℕ → S) (refused : Answer → S) (t w 
       (sym (unpack-at t w packed p hp) ∙ ap (λ a. getD (left a (unpackOf t w packed) out) p 0) (sym (good-block t w out packed h eo e)))
 
   module _ (indices out : List ℕ) (eo : length out ≡ length indices) where
-    -- Where the list is taken, each entry that it leaves is what single access gives for that index, and the entry of its counts is the count.
+    -- Where the list is taken, each entry that it leaves is what single access gives for that index, and the entry of
+    -- its counts is the count.
     pub list-single : firstBeyond 1024 indices ≡ length indices → (i : ℕ) → i < length indices
         → singleOf value refused t w packed (getD indices i 0) ≡ value (getD (listLeaves t w packed indices out) i 0) (getD (countsOf t w indices) i 0)
     unfolding listLeaves listOf countsOf

@@ -206,7 +206,8 @@ module _ {t w : ℕ} {indices : List ℕ} {budget i left : ℕ} (so : Spent t w 
   pub spent-next : (n : ℕ) → i < length indices → n ≡ countAt t w (getD indices i 0) → n ≤ left → Spent t w indices budget (i + 1) (left - n)
   spent-next n h e fits = record { all = omega (arith, so .all, front-next t w indices i h, e) }
 
-  -- Where the next lookup would pass the budget, or the list is at its end, the walk has gone through the affordable front part.
+  -- Where the next lookup would pass the budget, or the list is at its end, the walk has gone through the affordable
+  -- front part.
   module _ (h : i ≤ length indices) (next : i < length indices → left < countAt t w (getD indices i 0)) where
     spent-all : i ≡ affordable t w indices budget
     spent-all =
@@ -238,7 +239,8 @@ front-taken t w packed indices output k h given =
     (first-beyond-none 1024 (take k indices) .1
     (λ i b. subst (λ n. n < 1024) (sym (getD-take k indices i 0 (omega arith))) (index-within _ (given .inside i (omega arith)))))
 
--- What it gives stands for the answer of access by the list, and for the lookups answered and their words where it is done.
+-- What it gives stands for the answer of access by the list, and for the lookups answered and their words where it is
+-- done.
 module _ (t w : ℕ) (packed indices output : List ℕ) (budget : ℕ) where
   answer : Answer
   answer = answerFor (listTakes t w packed indices output)
@@ -271,7 +273,8 @@ module _ (t w : ℕ) (packed indices output : List ℕ) (budget : ℕ) where
         ∙ over-rest x output
         ∙ ap (λ m. drop m output) n
 
-    -- With all answered the outputs are those of the call without a budget, and for a budget of 64 bits, as every budget is, the sum is its sum.
+    -- With all answered the outputs are those of the call without a budget, and for a budget of 64 bits, as every
+    -- budget is, the sum is its sum.
     pub within-all : affordable t w indices budget ≡ length indices → budget < 2 ^ 64
         → (withinLeaves t w packed indices output budget ≡ listLeaves t w packed indices output)
         × (frontWords t w indices (affordable t w indices budget) ≡ listWords t w indices)
@@ -288,8 +291,8 @@ module _ (t w : ℕ) (packed indices output : List ℕ) (budget : ℕ) where
           ap sumOf counts ∙ sym (list-held t w indices .0 sum),
         )
 
-    -- Access by the front part alone is done; the outputs of the front part are those that it leaves, and the words, for a budget of 64 bits, those
-    -- that it gives.
+    -- Access by the front part alone is done; the outputs of the front part are those that it leaves, and the words,
+    -- for a budget of 64 bits, those that it gives.
     pub within-front : (answerFor (listTakes t w packed (take (affordable t w indices budget) indices) (take (affordable t w indices budget) output)) ≡ Done)
         × (take (affordable t w indices budget) (withinLeaves t w packed indices output budget)
         ≡ listLeaves t w packed (take (affordable t w indices budget) indices) (take (affordable t w indices budget) output))

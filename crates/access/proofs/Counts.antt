@@ -1,4 +1,5 @@
--- The laws of counts (document 02, Item 5): the words that hold a bit of a row are as many as its count says; and of sums of counts.
+-- The laws of counts (document 02, Item 5): the words that hold a bit of a row are as many as its count says; and of
+-- sums of counts.
 -- Assumes nothing.
 use mathlib.Core.Bool.{Bool, true, false}
 use mathlib.Core.List.{List, [], _∷_, _++_}
@@ -104,7 +105,8 @@ bit-word {t} s w r k h in-k =
     (each (λ t. (x : ℕ) → x < t * w → x / t < w) (λ x b. omega arith) (λ x b. omega arith) (λ x b. omega arith) (λ x b. omega arith) s
     (r * w + in-k .bit) (digits-lt h (in-k .within)))
 
--- The words that hold a bit of row r are those from r · w / t on, as many as the count says: each of these holds one, and no other does.
+-- The words that hold a bit of row r are those from r · w / t on, as many as the count says: each of these holds one,
+-- and no other does.
 module _ {t : ℕ} (s : Size t) (w r k : ℕ) (hw : w ≤ t) where
   pub bit-counted : BitIn t w r k → (r * w / t ≤ k) × (k < r * w / t + wordsRead t w r)
   unfolding Spread

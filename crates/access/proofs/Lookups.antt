@@ -1,5 +1,5 @@
--- What a lookup gives for a place is its lane and its row, so that the value of that row in that lane is the value at the place. And the
--- arithmetic of the row at the two element sizes that have no tables.
+-- What a lookup gives for a place is its lane and its row, so that the value of that row in that lane is the value at
+-- the place. And the arithmetic of the row at the two element sizes that have no tables.
 -- Assumes nothing.
 use mathlib.Core.Logic.{_⊎_, ⊎-elim, inl, inr}
 use mathlib.Core.Path.{_≡_, refl, sym, ap, ap₂, subst, subst⁻¹, _∙_}

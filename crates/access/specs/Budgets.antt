@@ -1,5 +1,5 @@
--- Access by a list under a budget of words (document 02, Item 6): how many of its lookups are answered, what it gives, and what it leaves in its
--- output.
+-- Access by a list under a budget of words (document 02, Item 6): how many of its lookups are answered, what it gives,
+-- and what it leaves in its output.
 -- Assumes nothing.
 use mathlib.Core.Bool.{Bool}
 use mathlib.Core.List.{List}
@@ -34,14 +34,15 @@ affordable t w indices budget = most (length indices) (λ k. leb (frontWords t w
 abbrev pub afforded : (answer : Answer) (count words : ℕ) → Afforded
 afforded a k n = pick (isDone a) (Front k n) (Refused a)
 
--- The call gives how many lookups it answered and how many words they read, or the refusal, which is that of access by the whole list.
+-- The call gives how many lookups it answered and how many words they read, or the refusal, which is that of access by
+-- the whole list.
 unfoldable pub withinGives : (t w : ℕ) (packed indices output : List ℕ) (budget : ℕ) → Afforded
 withinGives t w packed indices output budget =
     let k = affordable t w indices budget in
     afforded (answerFor (listTakes t w packed indices output)) k (frontWords t w indices k)
 
--- The outputs of the affordable front part hold what access by that part alone gives, and the others what they held; after a refusal all of them
--- hold what they held.
+-- The outputs of the affordable front part hold what access by that part alone gives, and the others what they held;
+-- after a refusal all of them hold what they held.
 unfoldable pub withinLeaves : (t w : ℕ) (packed indices output : List ℕ) (budget : ℕ) → List ℕ
 withinLeaves t w packed indices output budget =
     left (answerFor (listTakes t w packed indices output)) (over 0 (listOf t w packed (take (affordable t w indices budget) indices)) output) output

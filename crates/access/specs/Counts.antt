@@ -10,8 +10,8 @@ use Rattle.lists.specs.Tab.{tab}
 use Rattle.places.specs.Places.{row}
 use Rattle.places.specs.Sizes.{largestU64}
 
--- At a width of at most t the bits of row r stand in this many packed words of its lane: in none at width 0, in one where they end within the
--- word in which they begin, and else in two.
+-- At a width of at most t the bits of row r stand in this many packed words of its lane: in none at width 0, in one
+-- where they end within the word in which they begin, and else in two.
 unfoldable pub wordsRead : (t w r : ℕ) → ℕ
 wordsRead t w r = pick (eqb w 0) 0 (pick (leb (r * w % t + w) t) 1 2)
 
@@ -19,15 +19,15 @@ wordsRead t w r = pick (eqb w 0) 0 (pick (leb (r * w % t + w) t) 1 2)
 unfoldable pub countAt : (t w p : ℕ) → ℕ
 countAt t w p = wordsRead t w (row t p)
 
--- Word k of a lane holds a bit of its row r: bit b of row r is bit r · w + b of the lane. That there are as many such words as the count says is
--- a law.
+-- Word k of a lane holds a bit of its row r: bit b of row r is bit r · w + b of the lane. That there are as many such
+-- words as the count says is a law.
 pub record BitIn (t w r k : ℕ) : Type 0 where
   pub bit : ℕ
   pub within : bit < w
   pub stands : (r * w + bit) / t ≡ k
 
--- The largest u64 stands for a count where there is none. A count is 0, 1 or 2, so it is never this number; a list's sum may be
--- held at it, so 0 stands for the sum of a refused list.
+-- The largest u64 stands for a count where there is none. A count is 0, 1 or 2, so it is never this number; a list's
+-- sum may be held at it, so 0 stands for the sum of a refused list.
 abbrev pub noCount : ℕ
 noCount = largestU64
 

@@ -1,8 +1,9 @@
-// Access to a packed block of 1,024 values: at one place, and by a list of places. From the crate's src/bitpacking.rs. The width
-// is given at the call.
+// Access to a packed block of 1,024 values: at one place, and by a list of places. From the crate's src/bitpacking.rs.
+// The width is given at the call.
 //
-// What is the same at all four element sizes stands here: what a list of lookups gives, with a budget and without, the search of a list for an index past the
-// block's end, and an entry's refusal as the list's. Each size has a module of its own.
+// What is the same at all four element sizes stands here: what a list of lookups gives, with a budget and without, the
+// search of a list for an index past the block's end, and an entry's refusal as the list's. Each size has a module of
+// its own.
 pub mod t16;
 pub mod t32;
 pub mod t64;
@@ -16,7 +17,8 @@ ghost use Rattle.access.specs.Calls.{answerOf, wordsOf};
 ghost use Rattle.access.specs.InnerCounts.{firsts};
 ghost use Rattle.access.specs.InnerEntries.{atEntry};
 
-// A number of packed words: how many the bits of a value stand in, or the sum of these over a list (document 02, Item 5).
+// A number of packed words: how many the bits of a value stand in, or the sum of these over a list (document 02, Item
+// 5).
 pub type Words = u64;
 
 // What stands for a count where there is none.
@@ -50,8 +52,8 @@ impl Listed {
     }
 }
 
-// What access by a list under a budget gives: how many lookups of the list's front it answered and how many words these read, or
-// the refusal.
+// What access by a list under a budget gives: how many lookups of the list's front it answered and how many words these
+// read, or the refusal.
 pub enum Afforded {
     Front(usize, Words),
     Refused(Answer),

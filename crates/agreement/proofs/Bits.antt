@@ -1,5 +1,5 @@
--- The one law behind pack, unpack and single access: what is cut into digits of one length, bit by bit, is what the whole number's digits of that
--- length are. Over the element size and the width, for every list.
+-- The one law behind pack, unpack and single access: what is cut into digits of one length, bit by bit, is what the
+-- whole number's digits of that length are. Over the element size and the width, for every list.
 -- Assumes nothing.
 use mathlib.Core.List.{List}
 use mathlib.Core.Path.{_≡_, sym, ap, ap₂, _∙_, subst}
@@ -47,7 +47,8 @@ bit-number b f n x some small h =
     ∙ sym (bit-digit b (number b f n) (x / b) (x % b) (mod-lt x some))
     ∙ ap (λ d. bit d (x % b)) (digit-number b f n (x / b) small k)
 
--- The law. The number has c digits of b bits. Its digit k of c bits has as bit j what bit k·c + j of the digits of b bits is.
+-- The law. The number has c digits of b bits. Its digit k of c bits has as bit j what bit k·c + j of the digits of b
+-- bits is.
 pub cut-anew : (b c : ℕ) (f : ℕ → ℕ) (k : ℕ) → k < b → ((i : ℕ) → i < c → f i < 2 ^ b)
     → number 1 (λ j. bit (f ((k * c + j) / b)) ((k * c + j) % b)) c ≡ digit c (number b f c) k
 cut-anew b c f k h small =

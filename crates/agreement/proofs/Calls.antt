@@ -1,5 +1,6 @@
--- The plain calls against the main engine's, over the element size and the width: for every input the answer is the same, and so are the value,
--- the count and what is left in the lent buffer. Packed words are asked to be numbers of t bits, as the elements of a slice are.
+-- The plain calls against the main engine's, over the element size and the width: for every input the answer is the
+-- same, and so are the value, the count and what is left in the lent buffer. Packed words are asked to be numbers of t
+-- bits, as the elements of a slice are.
 -- Assumes nothing.
 use mathlib.Core.Bool.{Bool, true, false}
 use mathlib.Core.List.{List}
@@ -39,7 +40,8 @@ module _ {t : ℕ} (s : Size t) (w : ℕ) where
   unpacks-alike values packed small =
       (refl, ap (λ new. left (answerFor (packTakes t w values packed)) new values) (unpack-agrees s w packed small))
 
-  -- Single access gives the same, whatever enums the two are given in, where the one is read as the other case for case.
+  -- Single access gives the same, whatever enums the two are given in, where the one is read as the other case for
+  -- case.
   pub singles-alike : {S S′ : Type 0} (value : ℕ → ℕ → S) (refused : Answer → S) (value′ : ℕ → ℕ → S′) (refused′ : Answer → S′)
       → (read : S → S′) → ((v n : ℕ) → read (value v n) ≡ value′ v n) → ((a : Answer) → read (refused a) ≡ refused′ a)
       → (packed : List ℕ) → Elements t packed → (index : ℕ)

@@ -1,4 +1,5 @@
--- The count of the plain engine, which looks at the word of each bit, is Item 5's count. Over the element size and the width.
+-- The count of the plain engine, which looks at the word of each bit, is Item 5's count. Over the element size and the
+-- width.
 -- Assumes nothing.
 use mathlib.Core.Path.{_≡_, sym, ap, _∙_}
 use Prim.Native.Nat.{ℕ, zero, suc, _+_, _-_, _*_, _/_, _%_, _≤_, _<_}

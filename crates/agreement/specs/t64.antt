@@ -1,4 +1,5 @@
--- The single answer of the plain engine at this element size, as the one of access: value for value, count for count, refusal for refusal.
+-- The single answer of the plain engine at this element size, as the one of access: value for value, count for count,
+-- refusal for refusal.
 -- Assumes nothing.
 use Rattle.access.specs.declared.t64.Single as access
 use Rattle.access.specs.declared.t64.Single.the-variants as access-variants

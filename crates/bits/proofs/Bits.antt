@@ -1,5 +1,5 @@
--- What the two bit transposes promise, in document 01's words: where each bit goes, that this fixes the block, that each undoes the other,
--- and that at size 64 the bits move as values do under the value transpose. And the 8 by 8 step.
+-- What the two bit transposes promise, in document 01's words: where each bit goes, that this fixes the block, that
+-- each undoes the other, and that at size 64 the bits move as values do under the value transpose. And the 8 by 8 step.
 -- Assumes nothing.
 use mathlib.Core.Path.{_≡_, refl, sym, ap, ap₂, _∙_, subst}
 use mathlib.Core.List.{List}
@@ -129,7 +129,8 @@ goes-target = same 1024 (goesTo t64) target tt
 pub transpose-source : (b : List ℕ) (q : ℕ) → q < 1024 → bit (transposeBitsOf t64 b) q ≡ bit b (source q)
 transpose-source b q h = transpose-bit t64 b q h ∙ ap (bit b) (comes-source q h)
 
--- So the bits of the result, as a list of 1,024 values, are the value transpose of the bits that went in; and the same of the inverses.
+-- So the bits of the result, as a list of 1,024 values, are the value transpose of the bits that went in; and the same
+-- of the inverses.
 pub transpose-values : (b : List ℕ) → tab 1024 (bit (transposeBitsOf t64 b)) ≡ transposeOf (tab 1024 (bit b))
 unfolding transposeOf
 transpose-values b =

@@ -1,4 +1,5 @@
--- A block and its bits: the block that is made of given bits has them, and is the only one. And what the walks give, bit by bit.
+-- A block and its bits: the block that is made of given bits has them, and is the only one. And what the walks give,
+-- bit by bit.
 -- Assumes nothing.
 use mathlib.Core.Path.{_≡_, sym, ap, ap₂, _∙_}
 use mathlib.Core.List.{List}

@@ -88,7 +88,8 @@ pub bit-exchange : (x m k p : ℕ) → p < 64 → bitOf (exchangeOf x m k) p ≡
 unfolding exchangeOf
 bit-exchange x m k p h = bit-of-number (λ p. bitOf x (crossed m k p)) 64 (λ q l. bit-lt x (crossed m k q)) p h
 
--- Three exchanges are the 8 by 8 step where their moves together are its move. That is a test that is computed at each of the 64 bits.
+-- Three exchanges are the 8 by 8 step where their moves together are its move. That is a test that is computed at each
+-- of the 64 bits.
 pub exchanges-turn : (x m₁ k₁ m₂ k₂ m₃ k₃ : ℕ)
     → Same 64 (λ p. crossed m₁ k₁ (crossed m₂ k₂ (crossed m₃ k₃ p))) (λ p. p % 8 * 8 + p / 8)
     → Below 64 (λ p. crossed m₂ k₂ (crossed m₃ k₃ p)) (λ _. 64)

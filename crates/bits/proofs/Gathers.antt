@@ -1,4 +1,5 @@
--- What the two loops on bytes keep: the numbers of a block that are written as bytes, and the bytes that are gathered into one number.
+-- What the two loops on bytes keep: the numbers of a block that are written as bytes, and the bytes that are gathered
+-- into one number.
 -- Assumes nothing.
 use mathlib.Core.Path.{_≡_, refl, ap, _∙_, subst}
 use mathlib.Core.List.{List}

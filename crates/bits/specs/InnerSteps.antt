@@ -1,5 +1,5 @@
--- What the private steps of the two calls give, which no public contract names: the bytes of a block, eight of them gathered, the exchange of
--- bits under a mask, the 8 by 8 step, and the walks over sixteen words.
+-- What the private steps of the two calls give, which no public contract names: the bytes of a block, eight of them
+-- gathered, the exchange of bits under a mask, the 8 by 8 step, and the walks over sixteen words.
 -- Assumes nothing.
 use mathlib.Core.List.{List}
 use Prim.Native.Nat.{ℕ, _+_, _-_, _*_, _/_, _%_, _^_}
@@ -26,8 +26,8 @@ bytesOf b = tab 128 (byteAt b)
 unfoldable pub gatherOf : (bytes : List ℕ) (start step : ℕ) → ℕ
 gatherOf bytes start step = number 8 (λ i. getD bytes (start + i * step) 0) 8
 
--- The exchange under the mask m takes bit p from k places above where the mask has bit p, from k places below where the mask has the bit
--- there, and else from p itself.
+-- The exchange under the mask m takes bit p from k places above where the mask has bit p, from k places below where the
+-- mask has the bit there, and else from p itself.
 unfoldable pub crossed : (m k p : ℕ) → ℕ
 crossed m k p = p + bitOf m p * k - bitOf (m * 2 ^ k) p * k
 
@@ -47,12 +47,14 @@ gathersOf start step b = tab 16 (λ k. gatherOf (bytesOf b) (start k) step)
 unfoldable pub turnsOf : (start : ℕ → ℕ) (step : ℕ) (b : List ℕ) → List ℕ
 turnsOf start step b = tab 16 (λ k. turnOf (gatherOf (bytesOf b) (start k) step))
 
--- The transpose for size t first gathers group g: one byte of the words of eight lanes. With e = g mod (LANES / 8) these are the lanes from
--- 8·e on, whose words begin at byte e·t, and the byte is number order[(g − e) / 2] of each word.
+-- The transpose for size t first gathers group g: one byte of the words of eight lanes. With e = g mod (LANES / 8)
+-- these are the lanes from 8·e on, whose words begin at byte e·t, and the byte is number order[(g − e) / 2] of each
+-- word.
 unfoldable pub groupStart : (t g : ℕ) → ℕ
 groupStart t g = g % (lanes t / 8) * t + order ((g - g % (lanes t / 8)) / 2)
 
--- The groups are laid out by a walk in rounds of d words, which goes on by `near` bytes from word to word and by `far` from round to round.
+-- The groups are laid out by a walk in rounds of d words, which goes on by `near` bytes from word to word and by `far`
+-- from round to round.
 unfoldable pub roundStart : (d near far w : ℕ) → ℕ
 roundStart d near far w = w % d * near + w / d * far
 
@@ -60,7 +62,8 @@ roundStart d near far w = w % d * near + w / d * far
 abbrev pub scatterStart : ℕ → ℕ
 scatterStart = roundStart 2 64 1
 
--- The untranspose first gathers the bytes that belong to byte g mod 8 of the words of eight lanes, those from 8·(g / 8) on.
+-- The untranspose first gathers the bytes that belong to byte g mod 8 of the words of eight lanes, those from 8·(g / 8)
+-- on.
 unfoldable pub unscatterStart : ℕ → ℕ
 unscatterStart g = order (g % 8) * 2 + g / 8
 

@@ -2,12 +2,13 @@
 // src/bit_transpose/scalar.rs, with the byte reading, the base patterns and the masks of src/bit_transpose/mod.rs.
 //
 // Both calls go by sixteen groups of eight bytes. A group is gathered into one u64, its 8 by 8 bits are transposed, and
-// its bytes are laid out again. The crate looks at a block as 128 bytes in place; here bytes_of makes them by whole-number
-// arithmetic, which the compiler turns into a plain copy. The crate stores each byte of a group where it belongs; here each
-// output word gathers its eight bytes from the groups, so that it is written once and whole.
+// its bytes are laid out again. The crate looks at a block as 128 bytes in place; here bytes_of makes them by
+// whole-number arithmetic, which the compiler turns into a plain copy. The crate stores each byte of a group where it
+// belongs; here each output word gathers its eight bytes from the groups, so that it is written once and whole.
 //
 // What is the same at all four element sizes stands here, and the transpose of each size has a module of its own. The
-// inverse is asked for at T 64 only, so untranspose_bits stands here and not in the modules, which are one text for all sizes.
+// inverse is asked for at T 64 only, so untranspose_bits stands here and not in the modules, which are one text for all
+// sizes.
 pub mod t16;
 pub mod t32;
 pub mod t64;
@@ -34,8 +35,8 @@ pub fn untranspose_bits(block: BitBlock) -> BitBlock
     ungroup(unscatter(block))
 }
 
-// The 8 by 8 step moves bit j of byte i to bit i of byte j. It exchanges bits within squares of two by two, then squares of
-// two within squares of four, then squares of four within the whole.
+// The 8 by 8 step moves bit j of byte i to bit i of byte j. It exchanges bits within squares of two by two, then
+// squares of two within squares of four, then squares of four within the whole.
 fn transpose_8x8(x: u64) -> u64
     ensures { λ r. ⌜ r ≡ turnOf x ⌝ }
 {

@@ -23,8 +23,8 @@ pub fn transpose_bits(block: BitBlock) -> BitBlock
     scatter(group(block))
 }
 
-// Takes up the sixteen groups, and transposes each. A group has one byte of the words of eight lanes: byte b of the eight
-// lanes from 8 · e on is group order[b] · 2 + e, for that is the first byte that scatter makes of it.
+// Takes up the sixteen groups, and transposes each. A group has one byte of the words of eight lanes: byte b of the
+// eight lanes from 8 · e on is group order[b] · 2 + e, for that is the first byte that scatter makes of it.
 fn group(block: BitBlock) -> BitBlock
     ensures { λ r. ⌜ r ≡ turnsOf (groupStart t32) (t32 / 8) block ⌝ }
 {

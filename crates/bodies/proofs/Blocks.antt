@@ -90,8 +90,8 @@ a-block e body laid fits =
       ]
     ]
 
--- The value at a place of a packed block or of a frame is the one that its packed words hold there, and the reference is added. A packed block has
--- the reference 0.
+-- The value at a place of a packed block or of a frame is the one that its packed words hold there, and the reference
+-- is added. A packed block has the reference 0.
 pub packed-value : (e : Entry) (body : List ℕ) → isLaidOut e ≡ true → e .kind < 2 → (p : ℕ) → p < 1024
     → getD (blockOf e body) p 0 ≡ plus t64 (valueAt t64 (e .width) (packedFrom body 0 (e .width)) p) (e .reference)
 unfolding unforPackOf unpackOf plus

@@ -1,4 +1,5 @@
--- The laws of one body: the numbers that are read of it, the block that it stands for by its kind, and the tests of it one by one.
+-- The laws of one body: the numbers that are read of it, the block that it stands for by its kind, and the tests of it
+-- one by one.
 -- Assumes nothing.
 use mathlib.Core.Bool.{Bool, true, false}
 use mathlib.Core.List.{List, [], _∷_}
@@ -118,7 +119,8 @@ done-only : (b : Bool) (p : ℕ) → isDone (unless b (Dictionary p) NoRefusal) 
 done-only true p = refl
 done-only false p = refl
 
--- Run values and run indices are read whole, and decode is done with them exactly when every run index is below the number of the values.
+-- Run values and run indices are read whole, and decode is done with them exactly when every run index is below the
+-- number of the values.
 module _ (body indices values output : List ℕ) (b : length body ≡ 2048 + 8 * length values) (i : length indices ≡ 1024) (o : length output ≡ 1024) where
   values-read : readLeaves 8 (take (length body - 2048) (drop 2048 body)) values ≡ wordsFrom body 2048 (length values)
   values-read = words-read body values 2048 (length values) refl (omega arith)
@@ -146,7 +148,8 @@ module _ (body indices values output : List ℕ) (b : length body ≡ 2048 + 8 *
       ap₂ (λ v x. decodeLeaves v x output) values-read indices-read
       ∙ ap (λ d. pick d (decodeOf (wordsFrom body 2048 (length values)) (runIndices body)) output) indices-taken
 
--- The last test is that of the run indices. Where they are good the answer is done, and where they are not it is a refusal.
+-- The last test is that of the run indices. Where they are good the answer is done, and where they are not it is a
+-- refusal.
 last-answer : (b : Bool) → fileAnswer ((b, Runs 0) ∷ []) ≡ pick b Done (Runs 0)
 last-answer true = passed _ [] refl ∙ none-left
 last-answer false = stopped _ [] refl

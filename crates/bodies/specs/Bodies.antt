@@ -1,5 +1,6 @@
--- One body of a column file and the block that it stands for (document 02, Item 1), by its entry: kind 0 is packed, kind 1 a frame, kind 2
--- sixteen base words and packed differences, kind 3 run indices and run values. Then what is tested of a body.
+-- One body of a column file and the block that it stands for (document 02, Item 1), by its entry: kind 0 is packed,
+-- kind 1 a frame, kind 2 sixteen base words and packed differences, kind 3 run indices and run values. Then what is
+-- tested of a body.
 -- Assumes nothing.
 use mathlib.Core.Bool.{Bool, true}
 use mathlib.Core.List.{List, [], _∷_}
@@ -35,7 +36,8 @@ runIndices body = numbersOf 2 body 1024
 abbrev pub valueCount : (e : Entry) → ℕ
 valueCount e = (e .length - 2048) / 8
 
--- This is the block that an entry and its body stand for. An entry that is as laid out is of kind 0, 1, 2 or 3, so every other kind is 3 here.
+-- This is the block that an entry and its body stand for. An entry that is as laid out is of kind 0, 1, 2 or 3, so
+-- every other kind is 3 here.
 unfoldable pub blockOf : (e : Entry) (body : List ℕ) → List ℕ
 blockOf e body =
     pick (eqb (e .kind) 0) (unpackOf t64 (e .width) (packedFrom body 0 (e .width)))
@@ -47,11 +49,13 @@ blockOf e body =
 abbrev pub indexed : (n : ℕ) (body : List ℕ) → Bool
 indexed n body = eqb (firstBeyond n (runIndices body)) 1024
 
--- This test says that every run index of a body of runs is below the number of its run values; a body of another kind has none.
+-- This test says that every run index of a body of runs is below the number of its run values; a body of another kind
+-- has none.
 unfoldable pub hasGoodRuns : (e : Entry) (body : List ℕ) → Bool
 hasGoodRuns e body = pick (eqb (e .kind) 3) (indexed (valueCount e) body) true
 
--- These are the tests of one body against its entry. There is one entry and one block here, so the place of 10 and of 13 is 0.
+-- These are the tests of one body against its entry. There is one entry and one block here, so the place of 10 and of
+-- 13 is 0.
 abbrev pub bodyTests : (e : Entry) (body : List ℕ) → List FileTest
 bodyTests e body =
     (isLaidOut e, BadEntry 0)

@@ -1,6 +1,6 @@
-// One body of a column file against its entry, and the block that it stands for (document 02, Item 1), with the smallest and the
-// largest value of a block (Item 9). A program that holds the contents of a file and one body at a time needs no more than this
-// and the crate contents.
+// One body of a column file against its entry, and the block that it stands for (document 02, Item 1), with the
+// smallest and the largest value of a block (Item 9). A program that holds the contents of a file and one body at a
+// time needs no more than this and the crate contents.
 use contents::Entry;
 use contents::FileAnswer;
 use contents::Range;
@@ -136,7 +136,10 @@ fn lay_down(e: Entry, body: &[u8], output: &mut [u64]) -> FileAnswer
     requires { ⌜ length (now body) ≡ e .length ⌝ }
     requires { ⌜ length (now output) ≡ 1024 ⌝ }
     ensures { λ r. ⌜ r ≡ fileAnswer ((hasGoodRuns e (now (body .entry)), Runs 0) ∷ []) ⌝ }
-    ensures { λ _. ⌜ now (output .exit) ≡ pick (hasGoodRuns e (now (body .entry))) (blockOf e (now (body .entry))) (now (output .entry)) ⌝ }
+    ensures { λ _. ⌜
+        now (output .exit)
+        ≡ pick (hasGoodRuns e (now (body .entry))) (blockOf e (now (body .entry))) (now (output .entry))
+        ⌝ }
 {
     let kind = e.kind;
     match kind {
@@ -152,8 +155,8 @@ fn lay_down(e: Entry, body: &[u8], output: &mut [u64]) -> FileAnswer
     }
 }
 
-// The block of a packed body or of a frame. Its words go by way of an array, of which the part that they fill is lent. To set an array for 1,024
-// words to zeros is a sixth of the work, so the widths up to 32 have a smaller one.
+// The block of a packed body or of a frame. Its words go by way of an array, of which the part that they fill is lent.
+// To set an array for 1,024 words to zeros is a sixth of the work, so the widths up to 32 have a smaller one.
 fn packed_out(e: Entry, body: &[u8], output: &mut [u64])
     requires { ⌜ (e .kind < 2) × (e .width ≤ 64) ⌝ }
     requires { ⌜ length (now body) ≡ 128 * e .width ⌝ }
@@ -209,7 +212,11 @@ fn differences_out(width: usize, body: &[u8], output: &mut [u64])
     requires { ⌜ width ≤ 64 ⌝ }
     requires { ⌜ length (now body) ≡ 128 + 128 * width ⌝ }
     requires { ⌜ length (now output) ≡ 1024 ⌝ }
-    ensures { λ _. ⌜ now (output .exit) ≡ undeltaPackOf t64 width (packedFrom (now (body .entry)) 128 width) (wordsFrom (now (body .entry)) 0 (lanes t64)) ⌝ }
+    ensures { λ _. ⌜
+        now (output .exit)
+        ≡ undeltaPackOf t64 width (packedFrom (now (body .entry)) 128 width)
+        (wordsFrom (now (body .entry)) 0 (lanes t64))
+        ⌝ }
 {
     let mut base = [0u64; 16];
     let mut words = [0u64; 1024];
@@ -229,21 +236,29 @@ fn differences_through(
     requires { ⌜ length (now base) ≡ 16 ⌝ }
     requires { ⌜ length (now words) ≡ 16 * width ⌝ }
     requires { ⌜ length (now output) ≡ 1024 ⌝ }
-    ensures { λ _. ⌜ now (output .exit) ≡ undeltaPackOf t64 width (packedFrom (now (body .entry)) 128 width) (wordsFrom (now (body .entry)) 0 (lanes t64)) ⌝ }
+    ensures { λ _. ⌜
+        now (output .exit)
+        ≡ undeltaPackOf t64 width (packedFrom (now (body .entry)) 128 width)
+        (wordsFrom (now (body .entry)) 0 (lanes t64))
+        ⌝ }
 {
     read_words(body, base);
     read_words(&body[128..], words);
     undelta_pack(width, words, base, output);
 }
 
-// The block of a body of run indices and n run values. Decode looks at the indices, and writes nothing where one is out of range. To
-// set an array for 1,024 values to zeros is a sixth of the work, so a few values have a smaller one.
+// The block of a body of run indices and n run values. Decode looks at the indices, and writes nothing where one is out
+// of range. To set an array for 1,024 values to zeros is a sixth of the work, so a few values have a smaller one.
 fn runs_out(n: usize, body: &[u8], output: &mut [u64]) -> FileAnswer
     requires { ⌜ n ≤ 1024 ⌝ }
     requires { ⌜ length (now body) ≡ 2048 + 8 * n ⌝ }
     requires { ⌜ length (now output) ≡ 1024 ⌝ }
     ensures { λ r. ⌜ r ≡ fileAnswer ((indexed n (now (body .entry)), Runs 0) ∷ []) ⌝ }
-    ensures { λ _. ⌜ now (output .exit) ≡ pick (indexed n (now (body .entry))) (decodeOf (wordsFrom (now (body .entry)) 2048 n) (runIndices (now (body .entry)))) (now (output .entry)) ⌝ }
+    ensures { λ _. ⌜
+        now (output .exit)
+        ≡ pick (indexed n (now (body .entry)))
+        (decodeOf (wordsFrom (now (body .entry)) 2048 n) (runIndices (now (body .entry)))) (now (output .entry))
+        ⌝ }
 {
     if n <= 64 {
         return runs_few(n, body, output);
@@ -256,7 +271,11 @@ fn runs_few(n: usize, body: &[u8], output: &mut [u64]) -> FileAnswer
     requires { ⌜ length (now body) ≡ 2048 + 8 * n ⌝ }
     requires { ⌜ length (now output) ≡ 1024 ⌝ }
     ensures { λ r. ⌜ r ≡ fileAnswer ((indexed n (now (body .entry)), Runs 0) ∷ []) ⌝ }
-    ensures { λ _. ⌜ now (output .exit) ≡ pick (indexed n (now (body .entry))) (decodeOf (wordsFrom (now (body .entry)) 2048 n) (runIndices (now (body .entry)))) (now (output .entry)) ⌝ }
+    ensures { λ _. ⌜
+        now (output .exit)
+        ≡ pick (indexed n (now (body .entry)))
+        (decodeOf (wordsFrom (now (body .entry)) 2048 n) (runIndices (now (body .entry)))) (now (output .entry))
+        ⌝ }
 {
     let mut indices = [0u16; 1024];
     let mut values = [0u64; 64];
@@ -268,7 +287,11 @@ fn runs_many(n: usize, body: &[u8], output: &mut [u64]) -> FileAnswer
     requires { ⌜ length (now body) ≡ 2048 + 8 * n ⌝ }
     requires { ⌜ length (now output) ≡ 1024 ⌝ }
     ensures { λ r. ⌜ r ≡ fileAnswer ((indexed n (now (body .entry)), Runs 0) ∷ []) ⌝ }
-    ensures { λ _. ⌜ now (output .exit) ≡ pick (indexed n (now (body .entry))) (decodeOf (wordsFrom (now (body .entry)) 2048 n) (runIndices (now (body .entry)))) (now (output .entry)) ⌝ }
+    ensures { λ _. ⌜
+        now (output .exit)
+        ≡ pick (indexed n (now (body .entry)))
+        (decodeOf (wordsFrom (now (body .entry)) 2048 n) (runIndices (now (body .entry)))) (now (output .entry))
+        ⌝ }
 {
     let mut indices = [0u16; 1024];
     let mut values = [0u64; 1024];
@@ -285,7 +308,12 @@ fn runs_through(
     requires { ⌜ length (now indices) ≡ 1024 ⌝ }
     requires { ⌜ length (now output) ≡ 1024 ⌝ }
     ensures { λ r. ⌜ r ≡ fileAnswer ((indexed (length (now (values .entry))) (now (body .entry)), Runs 0) ∷ []) ⌝ }
-    ensures { λ _. ⌜ now (output .exit) ≡ pick (indexed (length (now (values .entry))) (now (body .entry))) (decodeOf (wordsFrom (now (body .entry)) 2048 (length (now (values .entry)))) (runIndices (now (body .entry)))) (now (output .entry)) ⌝ }
+    ensures { λ _. ⌜
+        now (output .exit)
+        ≡ pick (indexed (length (now (values .entry))) (now (body .entry))) (decodeOf
+        (wordsFrom (now (body .entry)) 2048 (length (now (values .entry)))) (runIndices (now (body .entry)))) (now
+        (output .entry))
+        ⌝ }
 {
     read_pairs(body, indices);
     read_words(&body[2048..], values);

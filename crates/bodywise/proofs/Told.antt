@@ -1,5 +1,5 @@
--- What holds of a file whose contents are right: its edition, its count, its entries and its ranges are read as they stand, and each body begins where
--- the one before it ends, within the file.
+-- What holds of a file whose contents are right: its edition, its count, its entries and its ranges are read as they
+-- stand, and each body begins where the one before it ends, within the file.
 -- Assumes nothing.
 use mathlib.Core.Bool.{true}
 use mathlib.Core.List.{List}

@@ -1,5 +1,6 @@
--- The laws of the walk over the bodies of a file whose contents are right: the first body begins behind the contents, and each step goes to the next. What a
--- walk keeps is one record, for every loop that walks and for the program that holds no more than a front of the file.
+-- The laws of the walk over the bodies of a file whose contents are right: the first body begins behind the contents,
+-- and each step goes to the next. What a walk keeps is one record, for every loop that walks and for the program that
+-- holds no more than a front of the file.
 -- Assumes nothing.
 use mathlib.Core.Bool.{Bool, true}
 use mathlib.Core.List.{List}

@@ -1,5 +1,6 @@
--- The walk over the bodies of a file, in their order: a body with its number, where it begins, and its entry, and the one behind it. In a file whose
--- contents are right body i of this walk begins where body i of the file begins, and has its entry: laws say so.
+-- The walk over the bodies of a file, in their order: a body with its number, where it begins, and its entry, and the
+-- one behind it. In a file whose contents are right body i of this walk begins where body i of the file begins, and has
+-- its entry: laws say so.
 --
 -- `front` is the front of the file, which has the contents.
 -- Assumes nothing.

@@ -1,6 +1,7 @@
-// The walk over the bodies of a column file (document 02, Items 1, 9 and 12), for a program that holds the contents and one body at a
-// time: a cursor that says which body comes next and where it begins, how many bytes of a file are its front, and the check of
-// the file body by body. The front is the first bytes of the file, with the contents; the whole file is its own front.
+// The walk over the bodies of a column file (document 02, Items 1, 9 and 12), for a program that holds the contents and
+// one body at a time: a cursor that says which body comes next and where it begins, how many bytes of a file are its
+// front, and the check of the file body by body. The front is the first bytes of the file, with the contents; the whole
+// file is its own front.
 use contents::Entry;
 use contents::FileAnswer;
 use contents::contents_length;
@@ -57,7 +58,8 @@ pub fn next(front: &[u8], body: Body) -> Body
     )
 }
 
-// The sum of two numbers, and the largest number where it is larger. No file is so long: it is so that any body can be given.
+// The sum of two numbers, and the largest number where it is larger. No file is so long: it is so that any body can be
+// given.
 fn plus(a: usize, b: usize) -> usize
     ensures { λ r. ⌜ r ≡ min (a + b) largestU64 ⌝ }
 {
@@ -79,8 +81,8 @@ pub fn front_length(head: &[u8]) -> usize
     4
 }
 
-// The answer to a file with one body more. It begins with that to the contents, takes the bodies in their order, and is after
-// the last of them the answer to the whole file. A refusal stays.
+// The answer to a file with one body more. It begins with that to the contents, takes the bodies in their order, and is
+// after the last of them the answer to the whole file. A refusal stays.
 pub fn step(answer: FileAnswer, front: &[u8], i: usize, body: &[u8]) -> FileAnswer
     ensures { λ r. ⌜ r ≡ stepOf answer (now (front .entry)) i (now (body .entry)) ⌝ }
 {
@@ -118,7 +120,10 @@ fn check_body(front: &[u8], i: usize, body: &[u8]) -> FileAnswer
 // The range of block i, whose body is as its entry says.
 fn check_range(front: &[u8], i: usize, body: &[u8]) -> FileAnswer
     requires { ⌜ fileAnswer (bodyTests (now front) i (now body)) ≡ Done ⌝ }
-    ensures { λ r. ⌜ r ≡ fileAnswer (rangeTests (now (front .entry)) i (blockOf (entryOr (now (front .entry)) i) (now (body .entry)))) ⌝ }
+    ensures { λ r. ⌜
+        r
+        ≡ fileAnswer (rangeTests (now (front .entry)) i (blockOf (entryOr (now (front .entry)) i) (now (body .entry))))
+        ⌝ }
 {
     if edition(front) != 2 {
         return FileAnswer::Done;

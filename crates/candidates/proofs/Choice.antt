@@ -1,5 +1,5 @@
--- The choice among the candidates: a body is as long as its entry says, the choice by entries and the choice by words are one, no candidate
--- is shorter than the chosen one, and no equally long one is of a lower kind.
+-- The choice among the candidates: a body is as long as its entry says, the choice by entries and the choice by words
+-- are one, no candidate is shorter than the chosen one, and no equally long one is of a lower kind.
 -- Assumes nothing.
 use mathlib.Core.Bool.{Bool, true, false}
 use mathlib.Core.List.{List}
@@ -126,8 +126,8 @@ module _ (values : List ℕ) where
       (shorter-words (shorter (plain values) (frame values)) (steps values) first-sized (steps-sized _ values)
       ∙ ap (λ x. shorterPart x (steps values .words)) (shorter-words (plain values) (frame values) (plain-sized _ values) (frame-sized _ values)))
 
--- The chosen candidate is one of the three: kind 0 where no other is shorter, kind 1 where it is shorter than kind 0 and kind 2 is not shorter
--- still, kind 2 where it is shorter than both.
+-- The chosen candidate is one of the three: kind 0 where no other is shorter, kind 1 where it is shorter than kind 0
+-- and kind 2 is not shorter still, kind 2 where it is shorter than both.
 pub data Which (values : List ℕ) : Type 0 where
   is-plain : chosen values ≡ plain values → plain values .entry .length ≤ frame values .entry .length
       → plain values .entry .length ≤ steps values .entry .length → Which values

@@ -1,4 +1,5 @@
--- What the three candidates leave in the lists that are lent for them: the body at the front, and behind it what was there.
+-- What the three candidates leave in the lists that are lent for them: the body at the front, and behind it what was
+-- there.
 -- Assumes nothing.
 use mathlib.Core.List.{List, _++_, append-assoc}
 use mathlib.Core.Path.{_≡_, sym, ap, ap₂, _∙_}

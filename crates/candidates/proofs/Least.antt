@@ -1,6 +1,6 @@
--- Document 02, Item 3, of one block: in each kind a width restores the block exactly when it is at least the least one, so the reader makes the block of the
--- chosen candidate; and no entry and body of the kind that was chosen, with its reference or base, give the block at a smaller width. That no candidate is
--- shorter stands in Choice.
+-- Document 02, Item 3, of one block: in each kind a width restores the block exactly when it is at least the least one,
+-- so the reader makes the block of the chosen candidate; and no entry and body of the kind that was chosen, with its
+-- reference or base, give the block at a smaller width. That no candidate is shorter stands in Choice.
 -- Assumes nothing.
 use mathlib.Core.List.{List, [], _++_, append-nil}
 use mathlib.Core.Logic.{_↔_}
@@ -157,8 +157,8 @@ module _ (values : List ℕ) (long : length values ≡ 1024) (fits : Elements t6
       let least : widthOf (packs kind values) ≤ w = kind-restores kind (chosen-kind values) w (omega arith) .0 same in
       omega arith
 
-  -- Not only what is packed here: no packed words whatever give the block at a smaller width. At width w every number that is unpacked is
-  -- below 2^w.
+  -- Not only what is packed here: no packed words whatever give the block at a smaller width. At width w every number
+  -- that is unpacked is below 2^w.
   plain-narrow : (w : ℕ) (packed : List ℕ) → unpackOf t64 w packed ≡ values → widthOf values ≤ w
   plain-narrow w packed same =
       fits-places values long fits w .0 (λ p h. subst (λ l. getD l p 0 < 2 ^ w) same (unpack-fits t64 w packed p h))
@@ -188,7 +188,8 @@ module _ (values : List ℕ) (long : length values ≡ 1024) (fits : Elements t6
       fits-places (differences values) (length-delta t64 values (baseOf values)) differences-fit w .0
       (λ p b. subst (λ l. getD l p 0 < 2 ^ w) (sym back) (unpack-fits t64 w packed p b))
 
-  -- So an entry and a body of the kind that was chosen, with its reference or base, that give the block are at least as wide.
+  -- So an entry and a body of the kind that was chosen, with its reference or base, that give the block are at least as
+  -- wide.
   pub no-narrower : (e : Entry) (body : List ℕ) → e .kind ≡ chosen values .entry .kind → e .reference ≡ chosen values .entry .reference
       → (e .kind ≡ 2 → wordsFrom body 0 (lanes t64) ≡ baseOf values) → blockOf e body ≡ values → chosen values .entry .width ≤ e .width
   unfolding plainAt frameAt stepsAt

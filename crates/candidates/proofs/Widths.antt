@@ -1,5 +1,5 @@
--- The laws of the least width, of one number and of a list; the highest number of a frame over the lowest one; and what the loop keeps that joins the bits
--- of all numbers of a list.
+-- The laws of the least width, of one number and of a list; the highest number of a frame over the lowest one; and what
+-- the loop keeps that joins the bits of all numbers of a list.
 -- Assumes nothing.
 use mathlib.Core.List.{List}
 use mathlib.Core.Logic.{_↔_}

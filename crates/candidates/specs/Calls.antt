@@ -1,5 +1,5 @@
--- What the calls on one block answer and leave (document 02, Items 3 and 9): the entry that the writer gives a block, its smallest and largest number,
--- and the body written.
+-- What the calls on one block answer and leave (document 02, Items 3 and 9): the entry that the writer gives a block,
+-- its smallest and largest number, and the body written.
 -- Assumes nothing.
 use mathlib.Core.List.{List, [], _∷_}
 use Prim.Native.Nat.{ℕ}

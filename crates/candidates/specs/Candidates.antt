@@ -1,5 +1,5 @@
--- What the writer lays down for a block of 1,024 numbers (document 02, Item 3): three candidates, each at the least width that restores the
--- block, and the one of them that is chosen.
+-- What the writer lays down for a block of 1,024 numbers (document 02, Item 3): three candidates, each at the least
+-- width that restores the block, and the one of them that is chosen.
 -- Assumes nothing.
 use mathlib.Core.List.{List, _++_}
 use Prim.Native.Nat.{ℕ}
@@ -56,7 +56,8 @@ stepsAt w values = record {
   words = baseOf values ++ packOf t64 w (differences values);
 }
 
--- Each kind stands at the least width that holds the numbers that it packs. That this is the least width that restores the block is a law.
+-- Each kind stands at the least width that holds the numbers that it packs. That this is the least width that restores
+-- the block is a law.
 abbrev pub plain : (values : List ℕ) → Candidate
 plain values = plainAt (widthOf values) values
 
@@ -66,7 +67,8 @@ frame values = frameAt (widthOf (framed values)) values
 abbrev pub steps : (values : List ℕ) → Candidate
 steps values = stepsAt (widthOf (differences values)) values
 
--- Two candidates are compared by the length of the body. The first has the lower kind, so it is taken where the lengths are equal.
+-- Two candidates are compared by the length of the body. The first has the lower kind, so it is taken where the lengths
+-- are equal.
 unfoldable pub shorter : (a b : Candidate) → Candidate
 shorter a b = pick (leb (a .entry .length) (b .entry .length)) a b
 

@@ -1,5 +1,5 @@
--- What is measured of a block before a candidate is laid down, and the choice by what was measured. The contracts of private steps name
--- these; no public contract does.
+-- What is measured of a block before a candidate is laid down, and the choice by what was measured. The contracts of
+-- private steps name these; no public contract does.
 -- Assumes nothing.
 use mathlib.Core.List.{List, _++_}
 use Prim.Native.Nat.{ℕ}

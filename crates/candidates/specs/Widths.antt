@@ -1,5 +1,5 @@
--- The least width that holds a number, and that holds every number of a list (document 02, Item 3). The highest number of a list stands in
--- runs, and the lowest in bodies.
+-- The least width that holds a number, and that holds every number of a list (document 02, Item 3). The highest number
+-- of a list stands in runs, and the lowest in bodies.
 -- Assumes nothing.
 use mathlib.Core.List.{List}
 use Prim.Native.Nat.{ℕ, _^_}
@@ -7,8 +7,8 @@ use lib.Dec.{leb}
 use Rattle.lists.specs.Ends.{highestOf}
 use Rattle.lists.specs.Search.{firstBad}
 
--- This is the least width that holds m: the lowest width w at which 2^w is not at most m, so that m is below 2^w. It is 64 where no lower
--- one holds m, and 64 bits hold every number that the calls take.
+-- This is the least width that holds m: the lowest width w at which 2^w is not at most m, so that m is below 2^w. It is
+-- 64 where no lower one holds m, and 64 bits hold every number that the calls take.
 unfoldable pub bits : (m : ℕ) → ℕ
 bits m = firstBad 64 (λ w. leb (2 ^ w) m)
 

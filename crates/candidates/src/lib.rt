@@ -1,6 +1,7 @@
-// What the writer lays down for one block (document 02, Item 3). There are three candidates: the packed block, the frame over
-// its lowest number, and the differences from row to row, with each lane's number in row 0 as base. Each is at the least width
-// that restores the block. The shortest is chosen, and of two that are equally long the one of the lower kind.
+// What the writer lays down for one block (document 02, Item 3). There are three candidates: the packed block, the
+// frame over its lowest number, and the differences from row to row, with each lane's number in row 0 as base. Each is
+// at the least width that restores the block. The shortest is chosen, and of two that are equally long the one of the
+// lower kind.
 //
 // A body is a list of words until it is chosen, and the chosen one alone becomes bytes.
 use bodies::range_of;
@@ -110,8 +111,9 @@ pub fn lay_block(values: &[u64], output: &mut [u8]) -> Laid
     Laid::As(e, range)
 }
 
-// Measures a block, and leaves its differences behind, which are packed later. No number is below the lowest, so the highest number
-// of the frame is the highest less the lowest. Row 0 of lane l stands at place l, so the base is the first sixteen numbers.
+// Measures a block, and leaves its differences behind, which are packed later. No number is below the lowest, so the
+// highest number of the frame is the highest less the lowest. Row 0 of lane l stands at place l, so the base is the
+// first sixteen numbers.
 fn measure(values: &[u64], differences: &mut [u64]) -> Measures
     requires { ⌜ length (now values) ≡ 1024 ⌝ }
     requires { ⌜ length (now differences) ≡ 1024 ⌝ }
@@ -129,8 +131,8 @@ fn measure(values: &[u64], differences: &mut [u64]) -> Measures
     }
 }
 
-// A number that has each bit which one of the numbers has, so it is as wide as the highest. Of the differences no more is needed than
-// their width, and to go over them so costs an eighth of the search for the highest.
+// A number that has each bit which one of the numbers has, so it is as wide as the highest. Of the differences no more
+// is needed than their width, and to go over them so costs an eighth of the search for the highest.
 fn any_bits(numbers: &[u64]) -> u64
     ensures { λ r. ⌜ bits r ≡ widthOf (now (numbers .entry)) ⌝ }
 {
@@ -150,8 +152,8 @@ fn width_of(m: u64) -> usize
     (64 - u64::leading_zeros(m)) as usize
 }
 
-// The entry of the shortest candidate. The entries are compared two at a time, and so are the bodies in `write_shortest`; both go by
-// the length, so they choose the same one.
+// The entry of the shortest candidate. The entries are compared two at a time, and so are the bodies in
+// `write_shortest`; both go by the length, so they choose the same one.
 fn entry_by(m: Measures) -> Entry
     requires { ⌜ (m .plain ≤ 64) × ((m .frame ≤ 64) × (m .steps ≤ 64)) ⌝ }
     ensures { λ r. ⌜ r ≡ entryBy m ⌝ }
@@ -186,13 +188,16 @@ fn shorter_entry(a: Entry, b: Entry) -> Entry
     b
 }
 
-// Lays the candidates down, each in an array of its own, and writes the bytes of the shortest. An array has room for the longest
-// body of its kind.
+// Lays the candidates down, each in an array of its own, and writes the bytes of the shortest. An array has room for
+// the longest body of its kind.
 fn lay_shortest(m: Measures, values: &[u64], differences: &[u64], output: &mut [u8])
     requires { ⌜ (m .plain ≤ 64) × ((m .frame ≤ 64) × (m .steps ≤ 64)) ⌝ }
     requires { ⌜ length (now values) ≡ 1024 ⌝ }
     requires { ⌜ length (now differences) ≡ 1024 ⌝ }
-    ensures { λ _. ⌜ now (output .exit) ≡ writeLeaves 8 (wordsBy m (now (values .entry)) (now (differences .entry))) (now (output .entry)) ⌝ }
+    ensures { λ _. ⌜
+        now (output .exit)
+        ≡ writeLeaves 8 (wordsBy m (now (values .entry)) (now (differences .entry))) (now (output .entry))
+        ⌝ }
 {
     let mut plain = [0u64; 1024];
     let mut frame = [0u64; 1024];
@@ -219,20 +224,26 @@ fn fill_frame(width: usize, values: &[u64], reference: u64, words: &mut [u64])
     requires { ⌜ width ≤ 64 ⌝ }
     requires { ⌜ length (now values) ≡ 1024 ⌝ }
     requires { ⌜ 16 * width ≤ length (now words) ⌝ }
-    ensures { λ _. ⌜ now (words .exit) ≡ over 0 (forPackOf t64 width (now (values .entry)) reference) (now (words .entry)) ⌝ }
+    ensures { λ _. ⌜
+        now (words .exit)
+        ≡ over 0 (forPackOf t64 width (now (values .entry)) reference) (now (words .entry))
+        ⌝ }
 {
     let n = 16 * width;
     for_pack(width, values, reference, &mut words[..n]);
 }
 
-// Puts the base at the front of the words, and packs the differences behind it. Row 0 of lane l stands at place l, so the base is
-// the first row.
+// Puts the base at the front of the words, and packs the differences behind it. Row 0 of lane l stands at place l, so
+// the base is the first row.
 fn fill_steps(width: usize, values: &[u64], differences: &[u64], words: &mut [u64])
     requires { ⌜ width ≤ 64 ⌝ }
     requires { ⌜ length (now values) ≡ 1024 ⌝ }
     requires { ⌜ length (now differences) ≡ 1024 ⌝ }
     requires { ⌜ 16 + 16 * width ≤ length (now words) ⌝ }
-    ensures { λ _. ⌜ now (words .exit) ≡ over 0 (baseOf (now (values .entry)) ++ packOf t64 width (now (differences .entry))) (now (words .entry)) ⌝ }
+    ensures { λ _. ⌜
+        now (words .exit)
+        ≡ over 0 (baseOf (now (values .entry)) ++ packOf t64 width (now (differences .entry))) (now (words .entry))
+        ⌝ }
 {
     store(words, load(values));
     let end = 16 + 16 * width;
@@ -251,15 +262,20 @@ fn write_shortest<'a>(
     requires { ⌜ 16 * m .plain ≤ length (now plain) ⌝ }
     requires { ⌜ 16 * m .frame ≤ length (now frame) ⌝ }
     requires { ⌜ 16 + 16 * m .steps ≤ length (now steps) ⌝ }
-    ensures { λ _. ⌜ now (output .exit) ≡ writeLeaves 8 (shorterPart (shorterPart (take (16 * m .plain) (now (plain .entry))) (take (16 * m .frame) (now (frame .entry)))) (take (16 + 16 * m .steps) (now (steps .entry)))) (now (output .entry)) ⌝ }
+    ensures { λ _. ⌜
+        now (output .exit)
+        ≡ writeLeaves 8 (shorterPart
+        (shorterPart (take (16 * m .plain) (now (plain .entry))) (take (16 * m .frame) (now (frame .entry))))
+        (take (16 + 16 * m .steps) (now (steps .entry)))) (now (output .entry))
+        ⌝ }
 {
     let first = shorter(plain, 16 * m.plain, frame, 16 * m.frame);
     let body = shorter(first, first.len(), steps, 16 + 16 * m.steps);
     write_words(body, output);
 }
 
-// Two bodies, of n and of k words, stand at the front of two lists. Hands back the part of its list that is the shorter one, and
-// of two that are equally long the first, which has the lower kind. Nothing is copied.
+// Two bodies, of n and of k words, stand at the front of two lists. Hands back the part of its list that is the shorter
+// one, and of two that are equally long the first, which has the lower kind. Nothing is copied.
 fn shorter<'a>(a: &'a [u64], n: usize, b: &'a [u64], k: usize) -> &'a [u64]
     requires { ⌜ n ≤ length (now a) ⌝ }
     requires { ⌜ k ≤ length (now b) ⌝ }

@@ -1,5 +1,5 @@
--- A file of bytes is its contents and its bodies: two files of edition 2 whose contents are right, with the same entries, ranges and bodies, are the same
--- byte for byte.
+-- A file of bytes is its contents and its bodies: two files of edition 2 whose contents are right, with the same
+-- entries, ranges and bodies, are the same byte for byte.
 -- Assumes nothing.
 use mathlib.Core.List.{List}
 use mathlib.Core.Path.{_≡_, refl, sym, ap, ap₂, _∙_}

@@ -1,5 +1,5 @@
--- The theorems on the check of a file that another program wrote (document 02, Item 14): it says yes exactly when the file's bytes are those that the
--- writer gives for its rows, and else names the lowest block that differs.
+-- The theorems on the check of a file that another program wrote (document 02, Item 14): it says yes exactly when the
+-- file's bytes are those that the writer gives for its rows, and else names the lowest block that differs.
 -- Assumes nothing.
 use mathlib.Core.Bool.{true}
 use mathlib.Core.List.{List}
@@ -135,7 +135,8 @@ written-accepted values b fits =
     (as-ours (file-exactly (fileOf values) Done .0 (file-accepted values (b .n) (b .whole) (b .few) fits)) (edition-is values (b .n) (b .whole) (b .few) fits)
     (sym (rewrite-same values b fits)))
 
--- and no other file is: the check says yes exactly when the file is what the writer gives for some numbers of 64 bits in whole blocks, at most 256 of them.
+-- and no other file is: the check says yes exactly when the file is what the writer gives for some numbers of 64 bits
+-- in whole blocks, at most 256 of them.
 pub canonical-yes : (l : List ℕ) → Elements 8 l
     → (fileAnswer (canonicalTests l) ≡ Done) ↔ ((values : List ℕ) × Blocks values × Elements t64 values × (l ≡ fileOf values))
 canonical-yes l bytes = (

@@ -1,5 +1,5 @@
--- The check of a file that another program wrote (document 02, Item 14): whether it is, byte for byte, what our writer would give for the rows that it
--- holds. `l` is the file, a list of bytes.
+-- The check of a file that another program wrote (document 02, Item 14): whether it is, byte for byte, what our writer
+-- would give for the rows that it holds. `l` is the file, a list of bytes.
 -- Assumes nothing.
 use mathlib.Core.Bool.{Bool, true, false}
 use mathlib.Core.List.{List, [], _∷_, _++_}
@@ -28,8 +28,8 @@ isSameList [] (y ∷ b) = false
 isSameList (x ∷ a) [] = false
 isSameList (x ∷ a) (y ∷ b) = both (eqb x y) (isSameList a b)
 
--- Block i is as our writer would write it where its entry and its body are those that are chosen for its values. In a file that the reader accepts
--- its range is the true one, as the writer's is.
+-- Block i is as our writer would write it where its entry and its body are those that are chosen for its values. In a
+-- file that the reader accepts its range is the true one, as the writer's is.
 unfoldable pub isOurs : (l : List ℕ) (i : ℕ) → Bool
 isOurs l i = both (isSameEntry (entryOf l i) (chosen (blockIn l i) .entry)) (isSameList (bodyOf l i) (bodyFor (blockIn l i)))
 

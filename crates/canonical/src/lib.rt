@@ -1,7 +1,7 @@
-// Whether a column file that another program wrote is, byte for byte, what our writer would give for the rows that it holds
-// (document 02, Item 14). The reader's check comes first. Then each block is laid down, the writer's entry and body for it are
-// made, and both are held to those of the file: there is room for one block of values and one body, beside the arrays in which the
-// candidates of a block are made, and never for a whole file.
+// Whether a column file that another program wrote is, byte for byte, what our writer would give for the rows that it
+// holds (document 02, Item 14). The reader's check comes first. Then each block is laid down, the writer's entry and
+// body for it are made, and both are held to those of the file: there is room for one block of values and one body,
+// beside the arrays in which the candidates of a block are made, and never for a whole file.
 use candidates::lay_block;
 use contents::Entry;
 use contents::FileAnswer;
@@ -35,7 +35,8 @@ pub fn check(file: &[u8]) -> FileAnswer
     FileAnswer::Done
 }
 
-// The lowest block that is not as our writer would write it, and the count where there is none, in a file that the reader accepts.
+// The lowest block that is not as our writer would write it, and the count where there is none, in a file that the
+// reader accepts.
 fn lowest_foreign(file: &[u8]) -> usize
     requires { ⌜ FileTaken (now file) ⌝ }
     ensures { λ r. ⌜ r ≡ foreign (now (file .entry)) ⌝ }
@@ -52,7 +53,8 @@ fn lowest_foreign(file: &[u8]) -> usize
     n
 }
 
-// Whether block i, whose body begins at `at`, is as our writer would write it. No body that is chosen is longer than 8,192 bytes.
+// Whether block i, whose body begins at `at`, is as our writer would write it. No body that is chosen is longer than
+// 8,192 bytes.
 fn is_ours(file: &[u8], i: usize, at: usize) -> bool
     requires { ⌜ FileTaken (now file) ⌝ }
     requires { ⌜ i < countIn (now file) ⌝ }

@@ -1,12 +1,12 @@
-// Says what differs between two column files (document 02, Item 12): compares left.col with right.col in the folder where it is
-// run, and writes to standard output a line for each row whose numbers differ, `row left right`, rising; then `rows A B` where
-// the row counts differ; and then `differences K`. Both files are checked before anything is listed, and the first bad one,
-// left before right, gives the only line, `refused left X Y` or `refused right X Y`.
+// Says what differs between two column files (document 02, Item 12): compares left.col with right.col in the folder
+// where it is run, and writes to standard output a line for each row whose numbers differ, `row left right`, rising;
+// then `rows A B` where the row counts differ; and then `differences K`. Both files are checked before anything is
+// listed, and the first bad one, left before right, gives the only line, `refused left X Y` or `refused right X Y`.
 //
-// What is read and what is written, and in which order, the machine of the crate listing says; here its wishes are granted one after
-// another. This is to be read beside `granted` and `runsBy` in the definitions of the crate wishes, which say the same of lists. A file
-// that does not open is one of no bytes, and so is one that cannot be read. A write that fails ends the run, since nothing could
-// be printed behind it: of that the definitions do not speak.
+// What is read and what is written, and in which order, the machine of the crate listing says; here its wishes are
+// granted one after another. This is to be read beside `granted` and `runsBy` in the definitions of the crate wishes,
+// which say the same of lists. A file that does not open is one of no bytes, and so is one that cannot be read. A write
+// that fails ends the run, since nothing could be printed behind it: of that the definitions do not speak.
 use console::lines::write_out;
 use console::read::length_of;
 use console::read::read_at;
@@ -154,8 +154,8 @@ fn take_turn(
     }
 }
 
-// A read fills its buffer with the part of its file, and a write writes the front of the output. Where there is no room for a read,
-// and where a write fails, the run stops.
+// A read fills its buffer with the part of its file, and a write writes the front of the output. Where there is no room
+// for a read, and where a write fails, the run stops.
 fn grant(
     wish: Wish,
     left: i32,

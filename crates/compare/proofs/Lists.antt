@@ -1,5 +1,5 @@
--- What is listed of two files, block by block, is the list of all rows that differ, with both numbers; and that list has every such row once,
--- rising, and no other.
+-- What is listed of two files, block by block, is the list of all rows that differ, with both numbers; and that list
+-- has every such row once, rising, and no other.
 -- Assumes nothing.
 use mathlib.Core.List.{List, [], _∷_, _++_, map, map-map}
 use mathlib.Core.Logic.{_≢_}

@@ -1,5 +1,5 @@
--- What the loops over two blocks keep: one that joins all the differences, and one that writes the places at which the blocks differ; and what the
--- comparison gives and leaves.
+-- What the loops over two blocks keep: one that joins all the differences, and one that writes the places at which the
+-- blocks differ; and what the comparison gives and leaves.
 -- Assumes nothing.
 use mathlib.Core.Bool.{Bool, true, false}
 use mathlib.Core.List.{List, [], _∷_, append-nil}

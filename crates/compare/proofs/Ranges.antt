@@ -1,5 +1,5 @@
--- Two files that say the same of a range are answered alike for a block that is the same in both; and the blocks that are in both files are counted by their
--- fronts.
+-- Two files that say the same of a range are answered alike for a block that is the same in both; and the blocks that
+-- are in both files are counted by their fronts.
 -- Assumes nothing.
 use mathlib.Core.Bool.{true}
 use mathlib.Core.List.{List}
@@ -19,7 +19,8 @@ use Rattle.bodywise.proofs.Fronts.{front-right}
 use Rattle.bodywise.proofs.Steps.{range-answer}
 use Rattle.compare.specs.Ranges.{sameRange}
 
--- Two files whose entries are right and that say the same of a range are answered alike for a block that is the same in both.
+-- Two files whose entries are right and that say the same of a range are answered alike for a block that is the same in
+-- both.
 pub range-alike : (left right : List ℕ) (i : ℕ) (block : List ℕ) → hasRightEntry left i ≡ true → hasRightEntry right i ≡ true → sameRange left right i ≡ true
     → fileAnswer (rangeTests left i block) ≡ fileAnswer (rangeTests right i block)
 unfolding hasTrueRange sameRange

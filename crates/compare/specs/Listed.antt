@@ -1,5 +1,6 @@
--- What is listed of two files, said a second time: every row in both whose numbers differ is there, with both numbers, no other is, and the rows
--- rise, so that none is there twice. It guards the list in Changes; that the list is so is a theorem.
+-- What is listed of two files, said a second time: every row in both whose numbers differ is there, with both numbers,
+-- no other is, and the rows rise, so that none is there twice. It guards the list in Changes; that the list is so is a
+-- theorem.
 -- Assumes nothing.
 use mathlib.Core.List.{List}
 use mathlib.Core.Logic.{_≢_}

@@ -1,5 +1,5 @@
-// What two column files differ in (document 02, Item 12): the blocks that are in both files, and the places at which two blocks
-// differ, for a program that holds the contents and one block of each file at a time.
+// What two column files differ in (document 02, Item 12): the blocks that are in both files, and the places at which
+// two blocks differ, for a program that holds the contents and one block of each file at a time.
 use contents::FileAnswer;
 use contents::edition;
 use contents::range_or;
@@ -49,8 +49,8 @@ impl Compared {
     }
 }
 
-// Whether two files say the same of the range of block i. Where they do, a block that is the same in both has its true range in
-// both or in neither.
+// Whether two files say the same of the range of block i. Where they do, a block that is the same in both has its true
+// range in both or in neither.
 pub fn same_range(left: &[u8], right: &[u8], i: usize) -> bool
     ensures { λ r. ⌜ r ≡ sameRange (now (left .entry)) (now (right .entry)) i ⌝ }
 {
@@ -71,11 +71,14 @@ pub fn blocks_in_both(left: &[u8], right: &[u8]) -> u16
     b
 }
 
-// Lists the places at which two blocks differ, rising, from the front of `places` on, and says how many they are. Both blocks and
-// the room for places have to be 1,024 long. Equal blocks are not gone through place by place.
+// Lists the places at which two blocks differ, rising, from the front of `places` on, and says how many they are. Both
+// blocks and the room for places have to be 1,024 long. Equal blocks are not gone through place by place.
 pub fn differing(left: &[u64], right: &[u64], places: &mut [u16]) -> Compared
     ensures { λ r. ⌜ r ≡ comparedOf (now (left .entry)) (now (right .entry)) (now (places .entry)) ⌝ }
-    ensures { λ _. ⌜ now (places .exit) ≡ differingLeaves (now (left .entry)) (now (right .entry)) (now (places .entry)) ⌝ }
+    ensures { λ _. ⌜
+        now (places .exit)
+        ≡ differingLeaves (now (left .entry)) (now (right .entry)) (now (places .entry))
+        ⌝ }
 {
     let lengths = check_lengths(left, right, places);
     if lengths.number() != 0 {
@@ -103,7 +106,8 @@ fn check_lengths(left: &[u64], right: &[u64], places: &[u16]) -> FileAnswer
     FileAnswer::Done
 }
 
-// Whether two blocks are the same. What is apart at each place is joined by `|`, so that there is no branch for a place.
+// Whether two blocks are the same. What is apart at each place is joined by `|`, so that there is no branch for a
+// place.
 fn are_same(left: &[u64], right: &[u64]) -> bool
     requires { ⌜ length (now left) ≡ 1024 ⌝ }
     requires { ⌜ length (now right) ≡ 1024 ⌝ }
@@ -124,7 +128,10 @@ fn list_places(left: &[u64], right: &[u64], places: &mut [u16]) -> usize
     requires { ⌜ length (now right) ≡ 1024 ⌝ }
     requires { ⌜ length (now places) ≡ 1024 ⌝ }
     ensures { λ r. ⌜ r ≡ length (differingIn (now (left .entry)) (now (right .entry))) ⌝ }
-    ensures { λ _. ⌜ now (places .exit) ≡ over 0 (differingIn (now (left .entry)) (now (right .entry))) (now (places .entry)) ⌝ }
+    ensures { λ _. ⌜
+        now (places .exit)
+        ≡ over 0 (differingIn (now (left .entry)) (now (right .entry))) (now (places .entry))
+        ⌝ }
 {
     let mut n = 0;
     let mut i = 0;

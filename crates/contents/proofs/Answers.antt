@@ -1,5 +1,5 @@
--- The tests of a call go one by one: a test that passes leaves the answer to the tests behind it, and one that fails gives its refusal. A
--- list that stands in front of another is gone through first.
+-- The tests of a call go one by one: a test that passes leaves the answer to the tests behind it, and one that fails
+-- gives its refusal. A list that stands in front of another is gone through first.
 -- Assumes nothing.
 use mathlib.Core.Bool.{Bool, true, false}
 use mathlib.Core.List.{List, [], _∷_, _++_}

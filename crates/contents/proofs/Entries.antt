@@ -91,7 +91,8 @@ entry-test l i =
           ∙ sym (lt-leb (contentsSize (edition l) (suc i)) (length l) (omega (arith, size-least (edition l) (suc i))))
     ]
 
--- By the test with the edition that was read an entry is there, and then that is the file's edition, or it is not there.
+-- By the test with the edition that was read an entry is there, and then that is the file's edition, or it is not
+-- there.
 module _ (l : List ℕ) (i : ℕ) {e : ℕ} (read : e ≡ editionOr l) {test : Bool} (tests : test ≡ leb (contentsSize e (i + 1)) (length l)) where
   same-test : test ≡ leb (contentsSize (edition l) (suc i)) (length l)
   same-test = tests ∙ ap (λ e. leb (contentsSize e (i + 1)) (length l)) read ∙ entry-test l i

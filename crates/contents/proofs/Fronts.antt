@@ -1,6 +1,6 @@
--- A front of a file tells of its contents what the whole file does, if it has them, or all of the file where that has fewer bytes. Where there are
--- more than 256 blocks the first four bytes are enough. So a program that holds no more than that gets the whole file's answer, its count and its
--- entries.
+-- A front of a file tells of its contents what the whole file does, if it has them, or all of the file where that has
+-- fewer bytes. Where there are more than 256 blocks the first four bytes are enough. So a program that holds no more
+-- than that gets the whole file's answer, its count and its entries.
 -- Assumes nothing.
 use mathlib.Core.Bool.{Bool, true, false}
 use mathlib.Core.List.{List, [], _∷_}

@@ -1,4 +1,5 @@
--- Reading through a part of the bytes: a byte and a number that lie within the part are those that stand there in the bytes.
+-- Reading through a part of the bytes: a byte and a number that lie within the part are those that stand there in the
+-- bytes.
 -- Assumes nothing.
 use mathlib.Core.Path.{_≡_, refl, ap, ap₂, _∙_}
 use mathlib.Core.List.{List}

@@ -1,4 +1,5 @@
--- The contents of a column file as bytes, and what writing them leaves (document 02, Items 1, 3 and 9): the writer writes edition 2.
+-- The contents of a column file as bytes, and what writing them leaves (document 02, Items 1, 3 and 9): the writer
+-- writes edition 2.
 -- Assumes nothing.
 use mathlib.Core.List.{List, [], _∷_, _++_}
 use Prim.Native.Nat.{ℕ, _+_}
@@ -30,7 +31,8 @@ entryBytes e r = firstBytes e ++ rangeBytes r
 unfoldable pub headLeaves : (n : ℕ) (bytes : List ℕ) → List ℕ
 headLeaves n bytes = pick (leb 4 (length bytes)) (over 0 (headBytes n) bytes) bytes
 
--- Writing the first sixteen bytes of an entry from place `at` on leaves this. Where they do not fit, nothing is written.
+-- Writing the first sixteen bytes of an entry from place `at` on leaves this. Where they do not fit, nothing is
+-- written.
 unfoldable pub firstLeaves : (e : Entry) (at : ℕ) (bytes : List ℕ) → List ℕ
 firstLeaves e at bytes = pick (leb (at + 16) (length bytes)) (over at (firstBytes e) bytes) bytes
 

@@ -1,5 +1,6 @@
--- The contents of a column file (document 02, Items 1, 9 and 11): edition, block count, and an entry for each block, in edition 2 with the block's
--- smallest and largest value. Then when an entry is right, where each body stands, and what is tested of the contents.
+-- The contents of a column file (document 02, Items 1, 9 and 11): edition, block count, and an entry for each block, in
+-- edition 2 with the block's smallest and largest value. Then when an entry is right, where each body stands, and what
+-- is tested of the contents.
 --
 -- `l` is the front of a file, of which the contents are the first bytes; the whole file is its own front.
 -- Assumes nothing.
@@ -72,11 +73,13 @@ packedSize more w = more + 128 * w
 abbrev pub isPacked : (more : ℕ) (e : Entry) → Bool
 isPacked more e = both (leb (e .width) 64) (eqb (e .length) (packedSize more (e .width)))
 
--- This test says that the width is 0 and the length 2048 + 8·n for a number n from 1 to 1,024: 2,056 to 10,240, and a multiple of 8.
+-- This test says that the width is 0 and the length 2048 + 8·n for a number n from 1 to 1,024: 2,056 to 10,240, and a
+-- multiple of 8.
 abbrev pub isRuns : (e : Entry) → Bool
 isRuns e = both (eqb (e .width) 0) (both (leb 2056 (e .length)) (both (leb (e .length) 10240) (eqb (e .length % 8) 0)))
 
--- These tests say what each kind asks of the rest of the entry: 0 is packed, 1 a frame, 2 differences with sixteen base words, 3 runs.
+-- These tests say what each kind asks of the rest of the entry: 0 is packed, 1 a frame, 2 differences with sixteen base
+-- words, 3 runs.
 unfoldable pub isOfKind : (e : Entry) → Bool
 isOfKind e =
     pick (eqb (e .kind) 0) (both (eqb (e .reference) 0) (isPacked 0 e))
@@ -92,7 +95,8 @@ isLaidOut e = both (eqb (e .zero) 0) (isOfKind e)
 abbrev pub isTakenIn : (edition : ℕ) (e : Entry) → Bool
 isTakenIn edition e = pick (eqb edition 2) (ltb (e .kind) 3) true
 
--- Entry i of a file is right where it is as laid out, the edition takes its kind, and the smallest value that it says is not above the largest.
+-- Entry i of a file is right where it is as laid out, the edition takes its kind, and the smallest value that it says
+-- is not above the largest.
 unfoldable pub isRight : (l : List ℕ) (i : ℕ) → Bool
 isRight l i = both (isLaidOut (entryOf l i)) (both (isTakenIn (edition l) (entryOf l i)) (isOrdered (rangeOf l i)))
 
@@ -117,7 +121,8 @@ entriesTests l size =
     ∷ (leb size (bodyStart l (count l)), Over)
     ∷ []
 
--- These are the tests of the contents: of the edition and the count, whether the entries are there, and then of the entries.
+-- These are the tests of the contents: of the edition and the count, whether the entries are there, and then of the
+-- entries.
 abbrev pub contentsTests : (l : List ℕ) (size : ℕ) → List FileTest
 contentsTests l size =
     (leb 4 (length l), Cut)

@@ -1,5 +1,5 @@
--- An entry that is as laid out, and the kinds that an edition takes, said a second time: in plain arithmetic, kind by kind, as document 02's Items 1
--- and 11 have it. It guards the tests in Contents; that the two agree is a law.
+-- An entry that is as laid out, and the kinds that an edition takes, said a second time: in plain arithmetic, kind by
+-- kind, as document 02's Items 1 and 11 have it. It guards the tests in Contents; that the two agree is a law.
 -- Assumes nothing.
 use mathlib.Core.Logic.{_⊎_}
 use mathlib.Core.Path.{_≡_}
@@ -13,9 +13,9 @@ pub record RunLength (length : ℕ) : Type 0 where
   pub high : n ≤ 1024
   pub is : length ≡ 2048 + 8 * n
 
--- The third field is zero; kind 0 is packed, with reference 0, width 0 to 64 and 128·W bytes; kind 1 is a frame, the same with any reference;
--- kind 2 has sixteen base words before the packed differences, reference 0 and 128 + 128·W bytes; kind 3 has runs, width and reference 0 and
--- 2048 + 8·n bytes.
+-- The third field is zero; kind 0 is packed, with reference 0, width 0 to 64 and 128·W bytes; kind 1 is a frame, the
+-- same with any reference; kind 2 has sixteen base words before the packed differences, reference 0 and 128 + 128·W
+-- bytes; kind 3 has runs, width and reference 0 and 2048 + 8·n bytes.
 abbrev pub LaidOut : (e : Entry) → Type 0
 LaidOut e =
     (e .zero ≡ 0)

@@ -1,7 +1,7 @@
-// The contents of a column file (document 02, Items 1, 9 and 11): edition, block count, and an entry for each block, in edition
-// 2 with the block's smallest and largest value. Here they are read and tested against the file's length, and nothing else of
-// the file is needed for that: a program that holds no more than the front of a file can ask here whether the file's contents
-// are right. The calls that begin with put write them, as edition 2.
+// The contents of a column file (document 02, Items 1, 9 and 11): edition, block count, and an entry for each block, in
+// edition 2 with the block's smallest and largest value. Here they are read and tested against the file's length, and
+// nothing else of the file is needed for that: a program that holds no more than the front of a file can ask here
+// whether the file's contents are right. The calls that begin with put write them, as edition 2.
 //
 // FileAnswer, what every call on a column file answers, stands here too.
 use little::pair;
@@ -22,13 +22,16 @@ ghost use Rattle.contents.specs.Bytes.{headLeaves, firstLeaves, entryLea
 // What a call on a file answers: that it is done, or why it is refused.
 pub enum FileAnswer {
     Done,
-    // a block or the room for places that is lent is not 1,024 long, or the numbers to be written are no whole blocks or more than 256 of them
+    // a block or the room for places that is lent is not 1,024 long, or the numbers to be written are no whole blocks
+    // or more than 256 of them
     Block,
     // the file is cut short: in its first four bytes, in the entries or in the bodies
     Cut,
-    // the edition is neither 1 nor 2, or there are more than 256 blocks; of the canonical check also a readable file of edition 1
+    // the edition is neither 1 nor 2, or there are more than 256 blocks; of the canonical check also a readable file of
+    // edition 1
     Edition,
-    // an entry is not as laid out, or is of kind 3 in edition 2, or its smallest value is above its largest; the lowest such entry
+    // an entry is not as laid out, or is of kind 3 in edition 2, or its smallest value is above its largest; the lowest
+    // such entry
     BadEntry(usize),
     // there are bytes after the last body
     Over,
@@ -175,7 +178,8 @@ pub fn entry_or(front: &[u8], i: usize) -> Entry
     no_entry()
 }
 
-// The smallest and the largest value that entry i says. Where it says none, or is not all there, every number is between them.
+// The smallest and the largest value that entry i says. Where it says none, or is not all there, every number is
+// between them.
 pub fn range_or(front: &[u8], i: usize) -> Range
     ensures { λ r. ⌜ r ≡ rangeOr (now (front .entry)) i ⌝ }
 {
@@ -186,8 +190,8 @@ pub fn range_or(front: &[u8], i: usize) -> Range
     any_range()
 }
 
-// Whether entry i is all there and right: as laid out, of a kind that its edition takes, and with a smallest value that is not above
-// its largest.
+// Whether entry i is all there and right: as laid out, of a kind that its edition takes, and with a smallest value that
+// is not above its largest.
 pub fn has_right_entry(front: &[u8], i: usize) -> bool
     ensures { λ r. ⌜ r ≡ hasRightEntry (now (front .entry)) i ⌝ }
 {
@@ -253,8 +257,8 @@ pub fn any_range() -> Range
     }
 }
 
-// The entry whose first sixteen bytes are there, from place `at` on. They are read through a part of that length: of a part whose
-// length the compiler knows no read has to test whether its bytes are there.
+// The entry whose first sixteen bytes are there, from place `at` on. They are read through a part of that length: of a
+// part whose length the compiler knows no read has to test whether its bytes are there.
 fn entry_at(front: &[u8], at: usize) -> Entry
     requires { ⌜ at + 16 ≤ length (now front) ⌝ }
     ensures { λ r. ⌜ r ≡ entryAt (now (front .entry)) at ⌝ }
@@ -335,7 +339,8 @@ fn put_first(e: Entry, at: usize, bytes: &mut [u8])
     put_word(e.reference, at + 8, bytes);
 }
 
-// Whether the contents are right, in a file of `size` bytes of which `front` is lent: at least the contents, at most all of it.
+// Whether the contents are right, in a file of `size` bytes of which `front` is lent: at least the contents, at most
+// all of it.
 pub fn check(front: &[u8], size: usize) -> FileAnswer
     ensures { λ r. ⌜ r ≡ fileAnswer (contentsTests (now (front .entry)) size) ⌝ }
 {

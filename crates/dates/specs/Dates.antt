@@ -1,16 +1,18 @@
--- Why transposing helps the dates (document 02, Item 13). This page is for people who know dates and not proofs. The statements below it
--- are proved in proofs/Dates.antt, by theorems whose names are given here.
+-- Why transposing helps the dates (document 02, Item 13). This page is for people who know dates and not proofs. The
+-- statements below it are proved in proofs/Dates.antt, by theorems whose names are given here.
 --
--- A block has 1,024 dates. Date i is the one that was written as number i, counted from 0: that is a logical value, and date i - 1 is the
--- logical value just before it. Dates that follow one another lie close together, so the difference of two such neighbours is a small number,
--- and small numbers are packed at a small width.
+-- A block has 1,024 dates. Date i is the one that was written as number i, counted from 0: that is a logical value, and
+-- date i - 1 is the logical value just before it. Dates that follow one another lie close together, so the difference
+-- of two such neighbours is a small number, and small numbers are packed at a small width.
 --
--- Delta does not go through a block from place 0 to place 1023. It cuts it into lanes, and stores in each lane every row minus the row
--- before it. Row r of lane l stands at place order[r / 8] * 16 + (r mod 8) * 128 + l. So in a block that stands as it was written the dates
--- that meet are no neighbours: the first eight rows of lane 0 are the dates 0, 128, 256, .., 896. Their differences are those of 128 dates.
+-- Delta does not go through a block from place 0 to place 1023. It cuts it into lanes, and stores in each lane every
+-- row minus the row before it. Row r of lane l stands at place order[r / 8] * 16 + (r mod 8) * 128 + l. So in a block
+-- that stands as it was written the dates that meet are no neighbours: the first eight rows of lane 0 are the dates 0,
+-- 128, 256, .., 896. Their differences are those of 128 dates.
 --
--- Transpose puts at place p the date whose number is the source of p. The dates that meet in a lane are then neighbours, at all four sizes:
--- row r of lane l holds the date whose number is that of row 0, plus r (`row-sources`). Row 0 of lane l stands at place l.
+-- Transpose puts at place p the date whose number is the source of p. The dates that meet in a lane are then
+-- neighbours, at all four sizes: row r of lane l holds the date whose number is that of row 0, plus r (`row-sources`).
+-- Row 0 of lane l stands at place l.
 --
 --     T    lanes   rows of a lane, all   lane l begins with date                     dates that meet     that meet the
 --                  of them neighbours                                                the one before      base: row 0
@@ -19,24 +21,27 @@
 --     32   32      32                    64 * (l mod 16) + 32 * (l / 16)             992                 32
 --     64   16      64                    64 * l                                      1,008               16
 --
--- So a lane of T 64 holds 64 dates that follow one another, and one of T 8 only 8. The lanes begin with the dates 0, T, 2 * T and so on,
--- though not in that order but at T 64.
+-- So a lane of T 64 holds 64 dates that follow one another, and one of T 8 only 8. The lanes begin with the dates 0, T,
+-- 2 * T and so on, though not in that order but at T 64.
 --
--- From row 1 on delta stores a date minus the date just before it (`neighbours`). Said without lanes: date i is stored minus date i - 1
--- unless i is a multiple of T, and it is stored at the place whose source is i (`each-date`).
+-- From row 1 on delta stores a date minus the date just before it (`neighbours`). Said without lanes: date i is stored
+-- minus date i - 1 unless i is a multiple of T, and it is stored at the place whose source is i (`each-date`).
 --
--- Row 0 has no row before it. What it stores is its date minus base[l], which the caller gives (`first-rows`). So row 0 meets a neighbour
--- only if the caller puts one into the base: for lane l the date before that lane's first, and for lane 0, which begins with date 0, the last
--- date of the block before. With a base of zeros row 0 stores the date itself, and that decides the width.
+-- Row 0 has no row before it. What it stores is its date minus base[l], which the caller gives (`first-rows`). So row 0
+-- meets a neighbour only if the caller puts one into the base: for lane l the date before that lane's first, and for
+-- lane 0, which begins with date 0, the last date of the block before. With a base of zeros row 0 stores the date
+-- itself, and that decides the width.
 --
--- All this is said of the two calls, transpose and then delta, as they answer: for every block, every base, and whatever the two outputs held
--- that they were lent, so long as the lengths are right. Neither call is then refused (`both-done`). Differences wrap modulo 2^T: a
--- date that is 1 below the one before it is stored as 2^T - 1, and undelta with the same base gives it back, but it needs the full width.
+-- All this is said of the two calls, transpose and then delta, as they answer: for every block, every base, and
+-- whatever the two outputs held that they were lent, so long as the lengths are right. Neither call is then refused
+-- (`both-done`). Differences wrap modulo 2^T: a date that is 1 below the one before it is stored as 2^T - 1, and
+-- undelta with the same base gives it back, but it needs the full width.
 --
--- Transpose is not its own inverse: a block that is transposed twice is not as it was. Untranspose gives it back at once. So do
--- transposes, but there have to be eight: eight restore any block (`eight-restore`), and no smaller number but 0 restores every block. One
--- block shows that of each number from 1 to 7 (`no-fewer`): it has a 1 at place 1 and 0 elsewhere, so it is a block at each size
--- (`lone-fits`). Its 1 goes to place 128, then to 2, 256, 4, 512, 8 and 64, and with the eighth transpose back to 1.
+-- Transpose is not its own inverse: a block that is transposed twice is not as it was. Untranspose gives it back at
+-- once. So do transposes, but there have to be eight: eight restore any block (`eight-restore`), and no smaller number
+-- but 0 restores every block. One block shows that of each number from 1 to 7 (`no-fewer`): it has a 1 at place 1 and 0
+-- elsewhere, so it is a block at each size (`lone-fits`). Its 1 goes to place 128, then to 2, 256, 4, 512, 8 and 64,
+-- and with the eighth transpose back to 1.
 -- Assumes nothing.
 use mathlib.Core.List.{List}
 use mathlib.Core.Logic.{_≢_}
@@ -58,7 +63,8 @@ use Rattle.deltas.specs.Calls.{deltaTakes, deltaLeaves}
 abbrev pub RowSources : Type 0
 RowSources = (t : ℕ) → Size t → (r l : ℕ) → r < t → l < lanes t → source (place r l) ≡ source l + r
 
--- These are a block of dates, a base, and the two outputs that transpose and delta are lent, which may have held anything.
+-- These are a block of dates, a base, and the two outputs that transpose and delta are lent, which may have held
+-- anything.
 pub record Lent (t : ℕ) : Type 0 where
   pub dates : List ℕ
   pub base : List ℕ
@@ -83,7 +89,8 @@ BothDone =
     (t : ℕ) → Size t → (x : Lent t)
     → (answerFor (transposeTakes (x .dates) (x .between)) ≡ Done) × (answerFor (deltaTakes t (transposedOf x) (x .base) (x .output)) ≡ Done)
 
--- From row 1 on, delta on a transposed block stores one logical value minus the logical value just before it, modulo 2^t.
+-- From row 1 on, delta on a transposed block stores one logical value minus the logical value just before it, modulo
+-- 2^t.
 abbrev pub Neighbours : Type 0
 Neighbours =
     (t : ℕ) → Size t → (x : Lent t) (r l : ℕ) → 1 ≤ r → r < t → l < lanes t

@@ -1,5 +1,5 @@
--- The laws of the digits of a number, and of the number of digits. A number is the number of its digits, and digits with no zero at the front
--- are those of their number.
+-- The laws of the digits of a number, and of the number of digits. A number is the number of its digits, and digits
+-- with no zero at the front are those of their number.
 -- Assumes nothing.
 use mathlib.Core.Bool.{Bool, true, false}
 use mathlib.Core.List.{List, [], _∷_, _++_, append-nil, append-assoc}

@@ -176,7 +176,8 @@ same-bytes (b ∷ text) e = go (ltb (digitOf b) 10) refl e (λ rest. same-bytes 
     go true f e rest = ap₂ _∷_ (same-byte b (ltb-true (digitOf b) 10 f)) (rest (omega arith))
     go false f e rest = absurd (omega arith)
 
--- The digits of the number of a bare text are its digits: of a text of one byte it is the only one, and else the first is not 0.
+-- The digits of the number of a bare text are its digits: of a text of one byte it is the only one, and else the first
+-- is not 0.
 bare-digits : (text : List ℕ) (n : ℕ) → 1 ≤ length text → Bare text → Read (map digitOf text) n → digitsIn n ≡ map digitOf text
 unfolding valueFrom
 bare-digits [] n some bare read = absurd (omega arith)

@@ -15,7 +15,8 @@ use Rattle.decimal.specs.Decimal.{digitsOf, valueOf, textOf}
 abbrev pub numberOr : (digits : List ℕ) → Parsed
 numberOr digits = pick (ltb (valueOf digits) 18446744073709551616) (Number (valueOf digits)) Large
 
--- A text with a byte that is no digit is read as Other, with the lowest such place; a text of digits alone as its number.
+-- A text with a byte that is no digit is read as Other, with the lowest such place; a text of digits alone as its
+-- number.
 abbrev pub digitsOr : (digits : List ℕ) → Parsed
 digitsOr digits = pick (ltb (firstBeyond 10 digits) (length digits)) (Other (firstBeyond 10 digits)) (numberOr digits)
 

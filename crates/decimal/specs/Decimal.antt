@@ -1,5 +1,5 @@
--- Numbers in decimal: the digits of a text and their number, and the digits and the text of a number. A text is a list of bytes, and
--- its digits are numbers; the first is worth the most.
+-- Numbers in decimal: the digits of a text and their number, and the digits and the text of a number. A text is a list
+-- of bytes, and its digits are numbers; the first is worth the most.
 -- Assumes nothing.
 use mathlib.Core.List.{List, [], _∷_, _++_, map}
 use mathlib.Core.Path.{_≡_}
@@ -25,13 +25,14 @@ valueFrom v (d ∷ digits) = valueFrom (v * 10 + d) digits
 abbrev pub valueOf : (digits : List ℕ) → ℕ
 valueOf digits = valueFrom 0 digits
 
--- These are the digits of n: of a number below 10 it is the only one, and else the last one, n mod 10, stands behind those of n / 10.
--- It goes on at most so many times.
+-- These are the digits of n: of a number below 10 it is the only one, and else the last one, n mod 10, stands behind
+-- those of n / 10. It goes on at most so many times.
 unfoldable pub digitsWithin : (times n : ℕ) → List ℕ
 digitsWithin zero n = n ∷ []
 digitsWithin (suc k) n = pick (ltb n 10) (n ∷ []) (digitsWithin k (n / 10) ++ (n % 10 ∷ []))
 
--- These are all digits of n, with no zero at the front but that of 0 itself: a tenth of n is gone to no more than n times.
+-- These are all digits of n, with no zero at the front but that of 0 itself: a tenth of n is gone to no more than n
+-- times.
 unfoldable pub digitsIn : (n : ℕ) → List ℕ
 digitsIn n = digitsWithin n n
 

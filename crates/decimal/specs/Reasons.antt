@@ -1,5 +1,6 @@
--- What a text is read as, said a second time: in plain arithmetic, without a test or a search. It guards the definitions of Decimal and Calls: that a text is
--- read as something exactly when it has the reason for it here is a theorem.
+-- What a text is read as, said a second time: in plain arithmetic, without a test or a search. It guards the
+-- definitions of Decimal and Calls: that a text is read as something exactly when it has the reason for it here is a
+-- theorem.
 -- Assumes nothing.
 use mathlib.Core.List.{List, [], _∷_}
 use mathlib.Core.Path.{_≡_}

@@ -1,6 +1,6 @@
-// Numbers in decimal (ours, for people with files and a shell): a text of digits read as a u64, and a u64 laid out as text. The two are
-// inverse: the text of a number is read as that number, and a text that is read, and has no needless zero at its front, is the text of
-// what was read. Nothing else is taken: no sign, no space, no point.
+// Numbers in decimal (ours, for people with files and a shell): a text of digits read as a u64, and a u64 laid out as
+// text. The two are inverse: the text of a number is read as that number, and a text that is read, and has no needless
+// zero at its front, is the text of what was read. Nothing else is taken: no sign, no space, no point.
 ghost use mathlib.Core.Path.{_≡_};
 ghost use Prim.Native.Nat.{_+_, _≤_};
 ghost use lib.ListN.{length};
@@ -88,7 +88,8 @@ pub fn length_of(n: u64) -> usize
     k
 }
 
-// Lays the text of a number at the front of the output, and gives how many bytes it has; 0, and nothing is laid, where it does not fit.
+// Lays the text of a number at the front of the output, and gives how many bytes it has; 0, and nothing is laid, where
+// it does not fit.
 pub fn lay(n: u64, out: &mut [u8]) -> usize
     ensures { λ r. ⌜ r ≡ laidOf n (now (out .entry)) ⌝ }
     ensures { λ _. ⌜ now (out .exit) ≡ layLeaves n (now (out .entry)) ⌝ }

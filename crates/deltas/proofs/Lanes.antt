@@ -1,5 +1,5 @@
--- The laws of sums and differences modulo 2^t, and of a lane: what stands before a row, what delta stores there and what undelta sums up to
--- there, over the element size t.
+-- The laws of sums and differences modulo 2^t, and of a lane: what stands before a row, what delta stores there and
+-- what undelta sums up to there, over the element size t.
 -- Assumes nothing.
 use mathlib.Core.Path.{_≡_, refl, sym, ap, ap₂, _∙_, subst}
 use mathlib.Core.Bool.{Bool, true, false}

@@ -1,4 +1,5 @@
--- Demand 3, the laws of differences and references, over every element size t and every width w from 0 to t. The demand says, in our words:
+-- Demand 3, the laws of differences and references, over every element size t and every width w from 0 to t. The demand
+-- says, in our words:
 --
 --   1. delta and then undelta with one base, and undelta and then delta with one base, give the block back.
 --   2. delta and undelta are additive, where blocks and bases are summed place by place modulo 2^t.
@@ -7,7 +8,8 @@
 --   5. for_pack and then unfor_pack with one reference restores a place exactly when its value minus the reference, modulo 2^t, is below 2^w.
 --   6. delta, pack and undelta_pack with one base restore a block exactly when each of its 1,024 differences is below 2^w.
 --
--- Each sentence stands here twice: over the definitions that the contracts cite, and as what the calls leave in the buffers lent to them.
+-- Each sentence stands here twice: over the definitions that the contracts cite, and as what the calls leave in the
+-- buffers lent to them.
 -- Assumes nothing.
 use mathlib.Core.Path.{_≡_, sym, ap, ap₂, _∙_, subst}
 use mathlib.Core.List.{List}
@@ -115,8 +117,8 @@ module _ {t : ℕ} (s : Size t) (w : ℕ) (hw : w ≤ t) where
         (λ small. back ∙ ap (λ n. plus t n reference) (mod-eq-of-lt small) ∙ plus-minus t (getD v p 0) reference (fv p) hr),
       )
 
-  -- 6. A block comes back from packed differences exactly when each difference is below 2^w. Where it comes back, the unpacked differences
-  -- are those of the block, because delta undoes undelta; so unpacking restored them.
+  -- 6. A block comes back from packed differences exactly when each difference is below 2^w. Where it comes back, the
+  -- unpacked differences are those of the block, because delta undoes undelta; so unpacking restored them.
   pub delta-restores : (v b : List ℕ) → length v ≡ 1024 → Elements t v → Elements t b
       → (undeltaPackOf t w (packOf t w (deltaOf t v b)) b ≡ v) ↔ ((p : ℕ) → p < 1024 → getD (deltaOf t v b) p 0 < 2 ^ w)
   delta-restores v b e fv fb =
@@ -239,7 +241,8 @@ module _ {t : ℕ} (s : Size t) (w : ℕ) (hw : w ≤ t) where
         λ p h. frame-restores s w hw v reference p h fv hr,
       )
 
-  -- 6. undelta_pack leaves the block that delta took, of what pack left, exactly when each number that delta left is below 2^w.
+  -- 6. undelta_pack leaves the block that delta took, of what pack left, exactly when each number that delta left is
+  -- below 2^w.
   pub delta-restores-calls : (v b o k o′ : List ℕ) → length v ≡ 1024 → length b ≡ lanes t
       → length o ≡ 1024 → length k ≡ lanes t * w → length o′ ≡ 1024 → Elements t v → Elements t b
       → (answerFor (deltaTakes t v b o) ≡ Done) × (answerFor (packTakes t w (deltaLeaves t v b o) k) ≡ Done)

@@ -1,5 +1,5 @@
--- Differences and references (document 01, "Differences and references"), over the element size t and the width w. Sums and differences
--- wrap modulo 2^t on purpose.
+-- Differences and references (document 01, "Differences and references"), over the element size t and the width w. Sums
+-- and differences wrap modulo 2^t on purpose.
 -- Assumes nothing.
 use mathlib.Core.List.{List}
 use Prim.Native.Nat.{ℕ, zero, suc, _-_}
@@ -19,8 +19,8 @@ before t values base p = pick (eqb (row t p) 0) (getD base (lane t p) 0) (getD v
 unfoldable pub deltaOf : (t : ℕ) (values base : List ℕ) → List ℕ
 deltaOf t values base = tab 1024 (λ p. minus t (getD values p 0) (before t values base p))
 
--- This is the sum along a lane whose numbers by row are f and whose base is b: row 0 gives its number plus the base, each later row its number plus
--- the result of the row before.
+-- This is the sum along a lane whose numbers by row are f and whose base is b: row 0 gives its number plus the base,
+-- each later row its number plus the result of the row before.
 unfoldable pub summed : (t : ℕ) (f : ℕ → ℕ) (b r : ℕ) → ℕ
 summed t f b zero = plus t (f 0) b
 summed t f b (suc r) = plus t (f (suc r)) (summed t f b r)

@@ -44,11 +44,14 @@ pub fn delta(input: &[u16], base: &[u16], output: &mut [u16]) -> Answer
     Answer::Done
 }
 
-// Sums in the same order: row 0 gives its number plus the lane's base, each later row its number plus the result of the row
-// before.
+// Sums in the same order: row 0 gives its number plus the lane's base, each later row its number plus the result of the
+// row before.
 pub fn undelta(input: &[u16], base: &[u16], output: &mut [u16]) -> Answer
     ensures { λ r. ⌜ r ≡ answerFor (deltaTakes t16 (now (input .entry)) (now (base .entry)) (now (output .entry))) ⌝ }
-    ensures { λ _. ⌜ now (output .exit) ≡ undeltaLeaves t16 (now (input .entry)) (now (base .entry)) (now (output .entry)) ⌝ }
+    ensures { λ _. ⌜
+        now (output .exit)
+        ≡ undeltaLeaves t16 (now (input .entry)) (now (base .entry)) (now (output .entry))
+        ⌝ }
 {
     if input.len() != 1024 {
         return Answer::Block;
@@ -65,7 +68,10 @@ pub fn undelta(input: &[u16], base: &[u16], output: &mut [u16]) -> Answer
 
 // Starts each lane at its base and adds, row by row, what the packed block holds there.
 pub fn undelta_pack(width: usize, packed: &[u16], base: &[u16], values: &mut [u16]) -> Answer
-    ensures { λ r. ⌜ r ≡ answerFor (undeltaPackTakes t16 width (now (values .entry)) (now (packed .entry)) (now (base .entry))) ⌝ }
+    ensures { λ r. ⌜
+        r
+        ≡ answerFor (undeltaPackTakes t16 width (now (values .entry)) (now (packed .entry)) (now (base .entry)))
+        ⌝ }
     ensures { λ _. ⌜ now (values .exit) ≡ undeltaPackLeaves t16 width (now (values .entry)) (now (packed .entry)) (now (base .entry)) ⌝ }
 {
     if T < width {
@@ -91,7 +97,10 @@ pub fn undelta_pack(width: usize, packed: &[u16], base: &[u16], values: &mut [u1
 // Packs each value minus the reference.
 pub fn for_pack(width: usize, values: &[u16], reference: u16, packed: &mut [u16]) -> Answer
     ensures { λ r. ⌜ r ≡ answerFor (packTakes t16 width (now (values .entry)) (now (packed .entry))) ⌝ }
-    ensures { λ _. ⌜ now (packed .exit) ≡ forPackLeaves t16 width (now (values .entry)) (now (packed .entry)) reference ⌝ }
+    ensures { λ _. ⌜
+        now (packed .exit)
+        ≡ forPackLeaves t16 width (now (values .entry)) (now (packed .entry)) reference
+        ⌝ }
 {
     if T < width {
         return Answer::Width;
@@ -113,7 +122,10 @@ pub fn for_pack(width: usize, values: &[u16], reference: u16, packed: &mut [u16]
 // Unpacks, and adds the reference.
 pub fn unfor_pack(width: usize, packed: &[u16], reference: u16, values: &mut [u16]) -> Answer
     ensures { λ r. ⌜ r ≡ answerFor (packTakes t16 width (now (values .entry)) (now (packed .entry))) ⌝ }
-    ensures { λ _. ⌜ now (values .exit) ≡ unforPackLeaves t16 width (now (values .entry)) (now (packed .entry)) reference ⌝ }
+    ensures { λ _. ⌜
+        now (values .exit)
+        ≡ unforPackLeaves t16 width (now (values .entry)) (now (packed .entry)) reference
+        ⌝ }
 {
     if T < width {
         return Answer::Width;
@@ -132,7 +144,8 @@ pub fn unfor_pack(width: usize, packed: &[u16], reference: u16, values: &mut [u1
     Answer::Done
 }
 
-// Row by row: each minus the one before, row 0 minus the base. A row is loaded again for the next one: that is cheaper than to keep it.
+// Row by row: each minus the one before, row 0 minus the base. A row is loaded again for the next one: that is cheaper
+// than to keep it.
 fn differences(input: &[u16], base: &[u16], output: &mut [u16])
     requires { ⌜ length (now input) ≡ 1024 ⌝ }
     requires { ⌜ length (now base) ≡ lanes t16 ⌝ }

@@ -44,11 +44,14 @@ pub fn delta(input: &[u32], base: &[u32], output: &mut [u32]) -> Answer
     Answer::Done
 }
 
-// Sums in the same order: row 0 gives its number plus the lane's base, each later row its number plus the result of the row
-// before.
+// Sums in the same order: row 0 gives its number plus the lane's base, each later row its number plus the result of the
+// row before.
 pub fn undelta(input: &[u32], base: &[u32], output: &mut [u32]) -> Answer
     ensures { λ r. ⌜ r ≡ answerFor (deltaTakes t32 (now (input .entry)) (now (base .entry)) (now (output .entry))) ⌝ }
-    ensures { λ _. ⌜ now (output .exit) ≡ undeltaLeaves t32 (now (input .entry)) (now (base .entry)) (now (output .entry)) ⌝ }
+    ensures { λ _. ⌜
+        now (output .exit)
+        ≡ undeltaLeaves t32 (now (input .entry)) (now (base .entry)) (now (output .entry))
+        ⌝ }
 {
     if input.len() != 1024 {
         return Answer::Block;
@@ -65,7 +68,10 @@ pub fn undelta(input: &[u32], base: &[u32], output: &mut [u32]) -> Answer
 
 // Starts each lane at its base and adds, row by row, what the packed block holds there.
 pub fn undelta_pack(width: usize, packed: &[u32], base: &[u32], values: &mut [u32]) -> Answer
-    ensures { λ r. ⌜ r ≡ answerFor (undeltaPackTakes t32 width (now (values .entry)) (now (packed .entry)) (now (base .entry))) ⌝ }
+    ensures { λ r. ⌜
+        r
+        ≡ answerFor (undeltaPackTakes t32 width (now (values .entry)) (now (packed .entry)) (now (base .entry)))
+        ⌝ }
     ensures { λ _. ⌜ now (values .exit) ≡ undeltaPackLeaves t32 width (now (values .entry)) (now (packed .entry)) (now (base .entry)) ⌝ }
 {
     if T < width {
@@ -91,7 +97,10 @@ pub fn undelta_pack(width: usize, packed: &[u32], base: &[u32], values: &mut [u3
 // Packs each value minus the reference.
 pub fn for_pack(width: usize, values: &[u32], reference: u32, packed: &mut [u32]) -> Answer
     ensures { λ r. ⌜ r ≡ answerFor (packTakes t32 width (now (values .entry)) (now (packed .entry))) ⌝ }
-    ensures { λ _. ⌜ now (packed .exit) ≡ forPackLeaves t32 width (now (values .entry)) (now (packed .entry)) reference ⌝ }
+    ensures { λ _. ⌜
+        now (packed .exit)
+        ≡ forPackLeaves t32 width (now (values .entry)) (now (packed .entry)) reference
+        ⌝ }
 {
     if T < width {
         return Answer::Width;
@@ -113,7 +122,10 @@ pub fn for_pack(width: usize, values: &[u32], reference: u32, packed: &mut [u32]
 // Unpacks, and adds the reference.
 pub fn unfor_pack(width: usize, packed: &[u32], reference: u32, values: &mut [u32]) -> Answer
     ensures { λ r. ⌜ r ≡ answerFor (packTakes t32 width (now (values .entry)) (now (packed .entry))) ⌝ }
-    ensures { λ _. ⌜ now (values .exit) ≡ unforPackLeaves t32 width (now (values .entry)) (now (packed .entry)) reference ⌝ }
+    ensures { λ _. ⌜
+        now (values .exit)
+        ≡ unforPackLeaves t32 width (now (values .entry)) (now (packed .entry)) reference
+        ⌝ }
 {
     if T < width {
         return Answer::Width;
@@ -132,7 +144,8 @@ pub fn unfor_pack(width: usize, packed: &[u32], reference: u32, values: &mut [u3
     Answer::Done
 }
 
-// Row by row: each minus the one before, row 0 minus the base. A row is loaded again for the next one: that is cheaper than to keep it.
+// Row by row: each minus the one before, row 0 minus the base. A row is loaded again for the next one: that is cheaper
+// than to keep it.
 fn differences(input: &[u32], base: &[u32], output: &mut [u32])
     requires { ⌜ length (now input) ≡ 1024 ⌝ }
     requires { ⌜ length (now base) ≡ lanes t32 ⌝ }

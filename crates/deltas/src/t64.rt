@@ -43,11 +43,14 @@ pub fn delta(input: &[u64], base: &[u64], output: &mut [u64]) -> Answer
     Answer::Done
 }
 
-// Sums in the same order: row 0 gives its number plus the lane's base, each later row its number plus the result of the row
-// before.
+// Sums in the same order: row 0 gives its number plus the lane's base, each later row its number plus the result of the
+// row before.
 pub fn undelta(input: &[u64], base: &[u64], output: &mut [u64]) -> Answer
     ensures { λ r. ⌜ r ≡ answerFor (deltaTakes t64 (now (input .entry)) (now (base .entry)) (now (output .entry))) ⌝ }
-    ensures { λ _. ⌜ now (output .exit) ≡ undeltaLeaves t64 (now (input .entry)) (now (base .entry)) (now (output .entry)) ⌝ }
+    ensures { λ _. ⌜
+        now (output .exit)
+        ≡ undeltaLeaves t64 (now (input .entry)) (now (base .entry)) (now (output .entry))
+        ⌝ }
 {
     if input.len() != 1024 {
         return Answer::Block;
@@ -64,7 +67,10 @@ pub fn undelta(input: &[u64], base: &[u64], output: &mut [u64]) -> Answer
 
 // Starts each lane at its base and adds, row by row, what the packed block holds there.
 pub fn undelta_pack(width: usize, packed: &[u64], base: &[u64], values: &mut [u64]) -> Answer
-    ensures { λ r. ⌜ r ≡ answerFor (undeltaPackTakes t64 width (now (values .entry)) (now (packed .entry)) (now (base .entry))) ⌝ }
+    ensures { λ r. ⌜
+        r
+        ≡ answerFor (undeltaPackTakes t64 width (now (values .entry)) (now (packed .entry)) (now (base .entry)))
+        ⌝ }
     ensures { λ _. ⌜ now (values .exit) ≡ undeltaPackLeaves t64 width (now (values .entry)) (now (packed .entry)) (now (base .entry)) ⌝ }
 {
     if T < width {
@@ -90,7 +96,10 @@ pub fn undelta_pack(width: usize, packed: &[u64], base: &[u64], values: &mut [u6
 // Packs each value minus the reference.
 pub fn for_pack(width: usize, values: &[u64], reference: u64, packed: &mut [u64]) -> Answer
     ensures { λ r. ⌜ r ≡ answerFor (packTakes t64 width (now (values .entry)) (now (packed .entry))) ⌝ }
-    ensures { λ _. ⌜ now (packed .exit) ≡ forPackLeaves t64 width (now (values .entry)) (now (packed .entry)) reference ⌝ }
+    ensures { λ _. ⌜
+        now (packed .exit)
+        ≡ forPackLeaves t64 width (now (values .entry)) (now (packed .entry)) reference
+        ⌝ }
 {
     if T < width {
         return Answer::Width;
@@ -112,7 +121,10 @@ pub fn for_pack(width: usize, values: &[u64], reference: u64, packed: &mut [u64]
 // Unpacks, and adds the reference.
 pub fn unfor_pack(width: usize, packed: &[u64], reference: u64, values: &mut [u64]) -> Answer
     ensures { λ r. ⌜ r ≡ answerFor (packTakes t64 width (now (values .entry)) (now (packed .entry))) ⌝ }
-    ensures { λ _. ⌜ now (values .exit) ≡ unforPackLeaves t64 width (now (values .entry)) (now (packed .entry)) reference ⌝ }
+    ensures { λ _. ⌜
+        now (values .exit)
+        ≡ unforPackLeaves t64 width (now (values .entry)) (now (packed .entry)) reference
+        ⌝ }
 {
     if T < width {
         return Answer::Width;
@@ -131,7 +143,8 @@ pub fn unfor_pack(width: usize, packed: &[u64], reference: u64, values: &mut [u6
     Answer::Done
 }
 
-// Row by row: each minus the one before, row 0 minus the base. A row is loaded again for the next one: that is cheaper than to keep it.
+// Row by row: each minus the one before, row 0 minus the base. A row is loaded again for the next one: that is cheaper
+// than to keep it.
 fn differences(input: &[u64], base: &[u64], output: &mut [u64])
     requires { ⌜ length (now input) ≡ 1024 ⌝ }
     requires { ⌜ length (now base) ≡ lanes t64 ⌝ }

@@ -44,11 +44,14 @@ pub fn delta(input: &[u8], base: &[u8], output: &mut [u8]) -> Answer
     Answer::Done
 }
 
-// Sums in the same order: row 0 gives its number plus the lane's base, each later row its number plus the result of the row
-// before.
+// Sums in the same order: row 0 gives its number plus the lane's base, each later row its number plus the result of the
+// row before.
 pub fn undelta(input: &[u8], base: &[u8], output: &mut [u8]) -> Answer
     ensures { λ r. ⌜ r ≡ answerFor (deltaTakes t8 (now (input .entry)) (now (base .entry)) (now (output .entry))) ⌝ }
-    ensures { λ _. ⌜ now (output .exit) ≡ undeltaLeaves t8 (now (input .entry)) (now (base .entry)) (now (output .entry)) ⌝ }
+    ensures { λ _. ⌜
+        now (output .exit)
+        ≡ undeltaLeaves t8 (now (input .entry)) (now (base .entry)) (now (output .entry))
+        ⌝ }
 {
     if input.len() != 1024 {
         return Answer::Block;
@@ -65,7 +68,10 @@ pub fn undelta(input: &[u8], base: &[u8], output: &mut [u8]) -> Answer
 
 // Starts each lane at its base and adds, row by row, what the packed block holds there.
 pub fn undelta_pack(width: usize, packed: &[u8], base: &[u8], values: &mut [u8]) -> Answer
-    ensures { λ r. ⌜ r ≡ answerFor (undeltaPackTakes t8 width (now (values .entry)) (now (packed .entry)) (now (base .entry))) ⌝ }
+    ensures { λ r. ⌜
+        r
+        ≡ answerFor (undeltaPackTakes t8 width (now (values .entry)) (now (packed .entry)) (now (base .entry)))
+        ⌝ }
     ensures { λ _. ⌜ now (values .exit) ≡ undeltaPackLeaves t8 width (now (values .entry)) (now (packed .entry)) (now (base .entry)) ⌝ }
 {
     if T < width {
@@ -91,7 +97,10 @@ pub fn undelta_pack(width: usize, packed: &[u8], base: &[u8], values: &mut [u8])
 // Packs each value minus the reference.
 pub fn for_pack(width: usize, values: &[u8], reference: u8, packed: &mut [u8]) -> Answer
     ensures { λ r. ⌜ r ≡ answerFor (packTakes t8 width (now (values .entry)) (now (packed .entry))) ⌝ }
-    ensures { λ _. ⌜ now (packed .exit) ≡ forPackLeaves t8 width (now (values .entry)) (now (packed .entry)) reference ⌝ }
+    ensures { λ _. ⌜
+        now (packed .exit)
+        ≡ forPackLeaves t8 width (now (values .entry)) (now (packed .entry)) reference
+        ⌝ }
 {
     if T < width {
         return Answer::Width;
@@ -113,7 +122,10 @@ pub fn for_pack(width: usize, values: &[u8], reference: u8, packed: &mut [u8]) -
 // Unpacks, and adds the reference.
 pub fn unfor_pack(width: usize, packed: &[u8], reference: u8, values: &mut [u8]) -> Answer
     ensures { λ r. ⌜ r ≡ answerFor (packTakes t8 width (now (values .entry)) (now (packed .entry))) ⌝ }
-    ensures { λ _. ⌜ now (values .exit) ≡ unforPackLeaves t8 width (now (values .entry)) (now (packed .entry)) reference ⌝ }
+    ensures { λ _. ⌜
+        now (values .exit)
+        ≡ unforPackLeaves t8 width (now (values .entry)) (now (packed .entry)) reference
+        ⌝ }
 {
     if T < width {
         return Answer::Width;
@@ -132,7 +144,8 @@ pub fn unfor_pack(width: usize, packed: &[u8], reference: u8, values: &mut [u8])
     Answer::Done
 }
 
-// Row by row: each minus the one before, row 0 minus the base. A row is loaded again for the next one: that is cheaper than to keep it.
+// Row by row: each minus the one before, row 0 minus the base. A row is loaded again for the next one: that is cheaper
+// than to keep it.
 fn differences(input: &[u8], base: &[u8], output: &mut [u8])
     requires { ⌜ length (now input) ≡ 1024 ⌝ }
     requires { ⌜ length (now base) ≡ lanes t8 ⌝ }

@@ -1,4 +1,5 @@
--- What the calls on a drawer answer: by the tests that they make, and each answer exactly when there is the reason for it.
+-- What the calls on a drawer answer: by the tests that they make, and each answer exactly when there is the reason for
+-- it.
 -- Assumes nothing.
 use mathlib.Core.Logic.{_↔_, inl, inr}
 use mathlib.Core.Path.{_≡_, sym, subst, _∙_}

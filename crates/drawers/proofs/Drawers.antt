@@ -1,5 +1,6 @@
--- The theorems of document 02's Item 7, said of what the calls answer and leave: each block of a drawer is the single call's result on that block; a
--- drawer of equal parts is answered as each single call is; a drawer of one block is the single call; and a drawer in two is two drawers.
+-- The theorems of document 02's Item 7, said of what the calls answer and leave: each block of a drawer is the single
+-- call's result on that block; a drawer of equal parts is answered as each single call is; a drawer of one block is the
+-- single call; and a drawer in two is two drawers.
 -- Assumes nothing.
 use mathlib.Core.List.{List, _++_}
 use mathlib.Core.Path.{_≡_, sym, ap, ap₂, _∙_}
@@ -78,8 +79,8 @@ equal-parts : (m n k : ℕ) → 1 ≤ m → m * n ≡ m * k → n ≡ k
 equal-parts m n k some e =
     sym (digits-div n some) ∙ ap (λ x. (x + 0) / m) (mul-comm n m ∙ e ∙ mul-comm m k) ∙ digits-div k some
 
--- From one block to 256, with values and packed words that are m parts of equal length each: the drawer has the whole answer of the single call on any of
--- the parts, number and place, whether that is a refusal or not.
+-- From one block to 256, with values and packed words that are m parts of equal length each: the drawer has the whole
+-- answer of the single call on any of the parts, number and place, whether that is a refusal or not.
 module _ (t w m k n : ℕ) (values packed : List ℕ) (few : m ≤ 256) (ev : length values ≡ m * k) (ep : length packed ≡ m * n) (b : ℕ) (h : b < m) where
   some : 1 ≤ m
   some = omega arith

@@ -1,4 +1,5 @@
--- A list that is cut into parts, each of which is turned into another list: the laws, for any rule that turns every part of n entries into k entries.
+-- A list that is cut into parts, each of which is turned into another list: the laws, for any rule that turns every
+-- part of n entries into k entries.
 -- Assumes nothing.
 use mathlib.Core.List.{List, [], _∷_, _++_, append-nil, append-assoc}
 use mathlib.Core.Path.{_≡_, refl, sym, ap, ap₂, _∙_, subst}

@@ -19,7 +19,10 @@ const LANES: usize = 16;
 // Unpacks so many blocks of one width that stand one after another.
 pub fn unpack_blocks(width: usize, blocks: usize, packed: &[u64], values: &mut [u64]) -> Answer
     ensures { λ r. ⌜ r ≡ drawerAnswer t64 width blocks (now (values .entry)) (now (packed .entry)) ⌝ }
-    ensures { λ _. ⌜ now (values .exit) ≡ unpackBlocksLeaves t64 width blocks (now (values .entry)) (now (packed .entry)) ⌝ }
+    ensures { λ _. ⌜
+        now (values .exit)
+        ≡ unpackBlocksLeaves t64 width blocks (now (values .entry)) (now (packed .entry))
+        ⌝ }
 {
     let answer = drawer_answer(width, blocks, values, packed);
     if answer.number() == 0 {
@@ -37,7 +40,10 @@ pub fn for_pack_blocks(
     packed: &mut [u64],
 ) -> Answer
     ensures { λ r. ⌜ r ≡ drawerAnswer t64 width blocks (now (values .entry)) (now (packed .entry)) ⌝ }
-    ensures { λ _. ⌜ now (packed .exit) ≡ forPackBlocksLeaves t64 width blocks (now (values .entry)) (now (packed .entry)) reference ⌝ }
+    ensures { λ _. ⌜
+        now (packed .exit)
+        ≡ forPackBlocksLeaves t64 width blocks (now (values .entry)) (now (packed .entry)) reference
+        ⌝ }
 {
     let answer = drawer_answer(width, blocks, values, packed);
     if answer.number() == 0 {
@@ -83,7 +89,10 @@ fn unpack_at(width: usize, packed: &[u64], b: usize, values: &mut [u64])
     requires { ⌜ (width ≤ t64) × (b < 256) ⌝ }
     requires { ⌜ b * (lanes t64 * width) + lanes t64 * width ≤ length (now packed) ⌝ }
     requires { ⌜ b * 1024 + 1024 ≤ length (now values) ⌝ }
-    ensures { λ _. ⌜ now (values .exit) ≡ over (b * 1024) (unpackOf t64 width (cut (lanes t64 * width) (now (packed .entry)) b)) (now (values .entry)) ⌝ }
+    ensures { λ _. ⌜
+        now (values .exit)
+        ≡ over (b * 1024) (unpackOf t64 width (cut (lanes t64 * width) (now (packed .entry)) b)) (now (values .entry))
+        ⌝ }
 {
     let from = b * (LANES * width);
     let from_end = from + LANES * width;
@@ -110,7 +119,11 @@ fn for_pack_at(width: usize, values: &[u64], reference: u64, b: usize, packed: &
     requires { ⌜ (width ≤ t64) × (b < 256) ⌝ }
     requires { ⌜ b * (lanes t64 * width) + lanes t64 * width ≤ length (now packed) ⌝ }
     requires { ⌜ b * 1024 + 1024 ≤ length (now values) ⌝ }
-    ensures { λ _. ⌜ now (packed .exit) ≡ over (b * (lanes t64 * width)) (forPackOf t64 width (cut 1024 (now (values .entry)) b) reference) (now (packed .entry)) ⌝ }
+    ensures { λ _. ⌜
+        now (packed .exit)
+        ≡ over (b * (lanes t64 * width)) (forPackOf t64 width (cut 1024 (now (values .entry)) b) reference)
+        (now (packed .entry))
+        ⌝ }
 {
     let from = b * 1024;
     let from_end = from + 1024;

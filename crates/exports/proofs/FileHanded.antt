@@ -1,4 +1,5 @@
--- What is handed over for what a call on a file gave is handed over for what its contract says that it gives, as Handed has it.
+-- What is handed over for what a call on a file gave is handed over for what its contract says that it gives, as Handed
+-- has it.
 -- Assumes nothing.
 use mathlib.Core.Path.{_≡_, subst}
 use Prim.Native.Nat.{ℕ}

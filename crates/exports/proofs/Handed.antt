@@ -1,4 +1,5 @@
--- What is handed over for what a call gave is handed over for what its contract says that it gives: the one step of each exported call.
+-- What is handed over for what a call gave is handed over for what its contract says that it gives: the one step of
+-- each exported call.
 -- Assumes nothing.
 use mathlib.Core.Path.{_≡_, subst}
 use Prim.Native.Nat.{ℕ}

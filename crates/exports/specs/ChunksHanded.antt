@@ -1,4 +1,5 @@
--- How what the calls on a body that comes in chunks give crosses to a program in C or in Rust, as `Handed` has it for the calls on blocks.
+-- How what the calls on a body that comes in chunks give crosses to a program in C or in Rust, as `Handed` has it for
+-- the calls on blocks.
 -- Assumes nothing.
 use mathlib.Core.Path.{_≡_}
 use mathlib.Core.List.{List}

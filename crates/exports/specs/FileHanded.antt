@@ -1,4 +1,5 @@
--- How what a call on a column file gives crosses to a program in C or in Rust, as `Handed` has it for the calls on blocks.
+-- How what a call on a column file gives crosses to a program in C or in Rust, as `Handed` has it for the calls on
+-- blocks.
 -- Assumes nothing.
 use mathlib.Core.Path.{_≡_}
 use Prim.Native.Nat.{ℕ}
@@ -23,8 +24,8 @@ pub record FileHanded (answer : FileAnswer) (number place : ℕ) : Type 0 where
   pub its-number : number ≡ numberOf answer
   pub its-place : place ≡ placeOf answer
 
--- A program in C or in Rust is handed one number for the count of words, so the largest number of 64 bits stands for a count where there is none: for
--- a value of a block of kind 2 or 3, and after a refusal.
+-- A program in C or in Rust is handed one number for the count of words, so the largest number of 64 bits stands for a
+-- count where there is none: for a value of a block of kind 2 or 3, and after a refusal.
 abbrev pub rowWords : Row → ℕ
 rowWords (Counted v n) = n
 rowWords (Uncounted v) = noCount
@@ -65,7 +66,8 @@ pub record RangeHanded (r : Range) (smallest largest : ℕ) : Type 0 where
   pub its-smallest : smallest ≡ r .smallest
   pub its-largest : largest ≡ r .largest
 
--- Of a body of the walk over a file its number, where it begins and how many bytes it has are handed over. The rest of its entry is asked for by its number.
+-- Of a body of the walk over a file its number, where it begins and how many bytes it has are handed over. The rest of
+-- its entry is asked for by its number.
 pub record BodyHanded (b : Body) (number start length : ℕ) : Type 0 where
   pub its-number : number ≡ b .number
   pub its-start : start ≡ b .at

@@ -1,5 +1,5 @@
--- How what a call on blocks gives crosses to a program in C or in Rust: the number of the answer is the result, and its place and
--- whatever else the call gives stand in numbers that are lent for them.
+-- How what a call on blocks gives crosses to a program in C or in Rust: the number of the answer is the result, and its
+-- place and whatever else the call gives stand in numbers that are lent for them.
 -- Assumes nothing.
 use mathlib.Core.Path.{_≡_}
 use Prim.Native.Nat.{ℕ}
@@ -15,7 +15,8 @@ pub record Handed (answer : Answer) (number place : ℕ) : Type 0 where
   pub its-number : number ≡ numberOf answer
   pub its-place : place ≡ placeOf answer
 
--- Of single access the value and its count of words are handed over too. The enum of each element size has these three functions.
+-- Of single access the value and its count of words are handed over too. The enum of each element size has these three
+-- functions.
 pub record SingleHanded {S : Type 0} (answerOf : S → Answer) (valueOf wordsOf : S → ℕ) (single : S) (number value words place : ℕ) : Type 0 where
   pub its-answer : Handed (answerOf single) number place
   pub its-value : value ≡ valueOf single

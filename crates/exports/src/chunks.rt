@@ -1,5 +1,6 @@
-// A packed u64 body that comes in chunks (document 02, Item 10), for programs in C and in Rust. The program keeps the state, which is three
-// things: the width, how many bytes are held, and the room for them. The calls are lent these one by one.
+// A packed u64 body that comes in chunks (document 02, Item 10), for programs in C and in Rust. The program keeps the
+// state, which is three things: the width, how many bytes are held, and the room for them. The calls are lent these one
+// by one.
 use trickle::Fed;
 use trickle::Started;
 use trickle::State;
@@ -23,13 +24,16 @@ pub extern "C" fn fascjoldi_trickle_start(
     room: &mut Room,
     place: &mut usize,
 ) -> usize
-    ensures { λ r. ⌜ StartHanded (startedOf asked) r (now (width .exit)) (now (held .exit)) (now (room .exit)) (now (place .exit)) ⌝ }
+    ensures { λ r. ⌜
+        StartHanded (startedOf asked) r (now (width .exit)) (now (held .exit)) (now (room .exit)) (now (place .exit))
+        ⌝ }
 {
     hand_started(start(asked), width, held, room, place)
 }
 
-// Feeds a chunk to a state, and gives how many of its bytes were taken: all, or what the body still lacked. A state that no call has left, of a width above 64 or
-// with more bytes held than its body has, counts as that of width 0, and is left so.
+// Feeds a chunk to a state, and gives how many of its bytes were taken: all, or what the body still lacked. A state
+// that no call has left, of a width above 64 or with more bytes held than its body has, counts as that of width 0, and
+// is left so.
 #[no_mangle]
 pub extern "C" fn fascjoldi_trickle_feed(
     width: &mut usize,
@@ -37,7 +41,10 @@ pub extern "C" fn fascjoldi_trickle_feed(
     room: &mut Room,
     chunk: &[u8],
 ) -> usize
-    ensures { λ r. ⌜ FedHanded (fedOf (stateOf (now (width .entry)) (now (held .entry)) (now (room .entry))) (now (chunk .entry))) r (now (width .exit)) (now (held .exit)) (now (room .exit)) ⌝ }
+    ensures { λ r. ⌜
+        FedHanded (fedOf (stateOf (now (width .entry)) (now (held .entry)) (now (room .entry))) (now (chunk .entry))) r
+        (now (width .exit)) (now (held .exit)) (now (room .exit))
+        ⌝ }
 {
     let state = State {
         width: *width,
@@ -56,7 +63,9 @@ pub extern "C" fn fascjoldi_trickle_ask(
     output: &mut [u64],
     place: &mut usize,
 ) -> usize
-    ensures { λ r. ⌜ AskHanded (askAnswer (stateOf width held (now (room .entry))) (now (output .entry))) r (now (place .exit)) ⌝ }
+    ensures { λ r. ⌜
+        AskHanded (askAnswer (stateOf width held (now (room .entry))) (now (output .entry))) r (now (place .exit))
+        ⌝ }
     ensures { λ _. ⌜ now (output .exit) ≡ askLeaves (stateOf width held (now (room .entry))) (now (output .entry)) ⌝ }
 {
     let state = State {
@@ -83,7 +92,9 @@ fn hand_started(
     room: &mut Room,
     place: &mut usize,
 ) -> usize
-    ensures { λ r. ⌜ StartHanded started r (now (width .exit)) (now (held .exit)) (now (room .exit)) (now (place .exit)) ⌝ }
+    ensures { λ r. ⌜
+        StartHanded started r (now (width .exit)) (now (held .exit)) (now (room .exit)) (now (place .exit))
+        ⌝ }
 {
     let state = started.state;
     *width = state.width;

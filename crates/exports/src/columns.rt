@@ -1,5 +1,5 @@
-// The calls on column files of u64 numbers, for programs in C and in Rust. The first ones take a whole file. A program that holds only the
-// front of a file, its contents, and one body at a time asks the ones that come after them.
+// The calls on column files of u64 numbers, for programs in C and in Rust. The first ones take a whole file. A program
+// that holds only the front of a file, its contents, and one body at a time asks the ones that come after them.
 use access::NO_COUNT;
 use access::Words;
 use bodywise::Body;
@@ -72,13 +72,16 @@ pub extern "C" fn fascjoldi_file_block_out(
     output: &mut [u64],
     place: &mut usize,
 ) -> usize
-    ensures { λ r. ⌜ FileHanded (fileAnswer (blockOutTests (now (file .entry)) block (now (output .entry)))) r (now (place .exit)) ⌝ }
+    ensures { λ r. ⌜
+        FileHanded (fileAnswer (blockOutTests (now (file .entry)) block (now (output .entry)))) r (now (place .exit))
+        ⌝ }
     ensures { λ _. ⌜ now (output .exit) ≡ blockOutLeaves (now (file .entry)) block (now (output .entry)) ⌝ }
 {
     hand(block_out(file, block, output), place)
 }
 
-// Checks a column file, and gives the number at one row and in how many packed words it stands, 2^64 - 1 where there is no such count; refused, the value is 0.
+// Checks a column file, and gives the number at one row and in how many packed words it stands, 2^64 - 1 where there is
+// no such count; refused, the value is 0.
 #[no_mangle]
 pub extern "C" fn fascjoldi_file_row_at(
     file: &[u8],
@@ -87,12 +90,15 @@ pub extern "C" fn fascjoldi_file_row_at(
     words: &mut Words,
     place: &mut usize,
 ) -> usize
-    ensures { λ r. ⌜ RowHanded (rowOf (now (file .entry)) row) r (now (value .exit)) (now (words .exit)) (now (place .exit)) ⌝ }
+    ensures { λ r. ⌜
+        RowHanded (rowOf (now (file .entry)) row) r (now (value .exit)) (now (words .exit)) (now (place .exit))
+        ⌝ }
 {
     hand_row(row_at(file, row), value, words, place)
 }
 
-// Writes a column file of whole blocks of numbers, and says how many bytes it has; refused, the length is 0. The output behind the file stays as it was.
+// Writes a column file of whole blocks of numbers, and says how many bytes it has; refused, the length is 0. The output
+// behind the file stays as it was.
 #[no_mangle]
 pub extern "C" fn fascjoldi_file_write(
     values: &[u64],
@@ -100,14 +106,16 @@ pub extern "C" fn fascjoldi_file_write(
     length: &mut usize,
     place: &mut usize,
 ) -> usize
-    ensures { λ r. ⌜ WrittenHanded (writtenOf (now (values .entry)) (now (output .entry))) r (now (length .exit)) (now (place .exit)) ⌝ }
+    ensures { λ r. ⌜
+        WrittenHanded (writtenOf (now (values .entry)) (now (output .entry))) r (now (length .exit)) (now (place .exit))
+        ⌝ }
     ensures { λ _. ⌜ now (output .exit) ≡ fileLeaves (now (values .entry)) (now (output .entry)) ⌝ }
 {
     hand_written(write(values, output), length, place)
 }
 
-// Writes the rows of any readable column file as our writer would, and says how many bytes the new file has; refused, the length is 0. The output
-// behind the new file stays as it was.
+// Writes the rows of any readable column file as our writer would, and says how many bytes the new file has; refused,
+// the length is 0. The output behind the new file stays as it was.
 #[no_mangle]
 pub extern "C" fn fascjoldi_file_rewrite(
     file: &[u8],
@@ -115,14 +123,16 @@ pub extern "C" fn fascjoldi_file_rewrite(
     length: &mut usize,
     place: &mut usize,
 ) -> usize
-    ensures { λ r. ⌜ WrittenHanded (rewrittenOf (now (file .entry)) (now (output .entry))) r (now (length .exit)) (now (place .exit)) ⌝ }
+    ensures { λ r. ⌜
+        WrittenHanded (rewrittenOf (now (file .entry)) (now (output .entry))) r (now (length .exit)) (now (place .exit))
+        ⌝ }
     ensures { λ _. ⌜ now (output .exit) ≡ rewriteLeaves (now (file .entry)) (now (output .entry)) ⌝ }
 {
     hand_written(rewrite(file, output), length, place)
 }
 
-// Lists the rows whose number lies between two bounds, both included, and says how many they are and how many blocks were opened; refused, both are 0.
-// The room behind the rows stays as it was.
+// Lists the rows whose number lies between two bounds, both included, and says how many they are and how many blocks
+// were opened; refused, both are 0. The room behind the rows stays as it was.
 #[no_mangle]
 pub extern "C" fn fascjoldi_file_search(
     file: &[u8],
@@ -133,14 +143,17 @@ pub extern "C" fn fascjoldi_file_search(
     opened: &mut usize,
     place: &mut usize,
 ) -> usize
-    ensures { λ r. ⌜ FoundHanded (foundOf (now (file .entry)) low high (now (rows .entry))) r (now (found .exit)) (now (opened .exit)) (now (place .exit)) ⌝ }
+    ensures { λ r. ⌜
+        FoundHanded (foundOf (now (file .entry)) low high (now (rows .entry))) r (now (found .exit))
+        (now (opened .exit)) (now (place .exit))
+        ⌝ }
     ensures { λ _. ⌜ now (rows .exit) ≡ searchLeaves (now (file .entry)) low high (now (rows .entry)) ⌝ }
 {
     hand_found(search(file, low, high, rows), found, opened, place)
 }
 
-// Says how many bytes of a file are its front, by its first four: the front is the head and the contents, and the bodies stand behind it. It is 4 where the head is
-// shorter than that, or says contents of more than 8,196 bytes.
+// Says how many bytes of a file are its front, by its first four: the front is the head and the contents, and the
+// bodies stand behind it. It is 4 where the head is shorter than that, or says contents of more than 8,196 bytes.
 #[no_mangle]
 pub extern "C" fn fascjoldi_front_length(head: &[u8]) -> usize
     ensures { λ r. ⌜ r ≡ frontSize (now (head .entry)) ⌝ }
@@ -200,7 +213,10 @@ pub extern "C" fn fascjoldi_front_entry(
     length: &mut u32,
     reference: &mut u64,
 )
-    ensures { λ _. ⌜ EntryHanded (entryOr (now (front .entry)) block) (now (kind .exit)) (now (width .exit)) (now (zero .exit)) (now (length .exit)) (now (reference .exit)) ⌝ }
+    ensures { λ _. ⌜
+        EntryHanded (entryOr (now (front .entry)) block) (now (kind .exit)) (now (width .exit)) (now (zero .exit))
+        (now (length .exit)) (now (reference .exit))
+        ⌝ }
 {
     hand_entry(entry_or(front, block), kind, width, zero, length, reference);
 }
@@ -219,7 +235,8 @@ pub extern "C" fn fascjoldi_front_range(
     hand_range(range_or(front, block), smallest, largest);
 }
 
-// Says whether the fronts of two files say the same of the smallest and the largest number of a block; no where their editions differ.
+// Says whether the fronts of two files say the same of the smallest and the largest number of a block; no where their
+// editions differ.
 #[no_mangle]
 pub extern "C" fn fascjoldi_front_same_range(left: &[u8], right: &[u8], block: usize) -> bool
     ensures { λ r. ⌜ r ≡ sameRange (now (left .entry)) (now (right .entry)) block ⌝ }
@@ -235,8 +252,8 @@ pub extern "C" fn fascjoldi_front_blocks_in_both(left: &[u8], right: &[u8]) -> u
     blocks_in_both(left, right)
 }
 
-// Checks one body against the contents, and lays down its 1,024 numbers. Of 8 and 11 it is the body that is cut short or too long; 10, also where
-// the front has no such entry, and 13 have the block as place.
+// Checks one body against the contents, and lays down its 1,024 numbers. Of 8 and 11 it is the body that is cut short
+// or too long; 10, also where the front has no such entry, and 13 have the block as place.
 #[no_mangle]
 pub extern "C" fn fascjoldi_body_block_out(
     front: &[u8],
@@ -245,14 +262,21 @@ pub extern "C" fn fascjoldi_body_block_out(
     output: &mut [u64],
     place: &mut usize,
 ) -> usize
-    ensures { λ r. ⌜ FileHanded (fileAnswer (bodyTests (now (front .entry)) block (now (body .entry)) (now (output .entry)))) r (now (place .exit)) ⌝ }
-    ensures { λ _. ⌜ now (output .exit) ≡ bodyLeaves (now (front .entry)) block (now (body .entry)) (now (output .entry)) ⌝ }
+    ensures { λ r. ⌜
+        FileHanded (fileAnswer (bodyTests (now (front .entry)) block (now (body .entry)) (now (output .entry)))) r
+        (now (place .exit))
+        ⌝ }
+    ensures { λ _. ⌜
+        now (output .exit)
+        ≡ bodyLeaves (now (front .entry)) block (now (body .entry)) (now (output .entry))
+        ⌝ }
 {
     hand(bodywise::held_block(front, block, body, output), place)
 }
 
-// Checks the smallest and the largest of a block's numbers, which were laid down, against what the contents say: 10 with the block where its entry
-// is not right, then 15 with the block; edition 1 says no smallest and largest number, so there 15 is not given. Any length of values is taken.
+// Checks the smallest and the largest of a block's numbers, which were laid down, against what the contents say: 10
+// with the block where its entry is not right, then 15 with the block; edition 1 says no smallest and largest number,
+// so there 15 is not given. Any length of values is taken.
 #[no_mangle]
 pub extern "C" fn fascjoldi_body_check_range(
     front: &[u8],
@@ -260,7 +284,9 @@ pub extern "C" fn fascjoldi_body_check_range(
     values: &[u64],
     place: &mut usize,
 ) -> usize
-    ensures { λ r. ⌜ FileHanded (fileAnswer (rangeTests (now (front .entry)) block (now (values .entry)))) r (now (place .exit)) ⌝ }
+    ensures { λ r. ⌜
+        FileHanded (fileAnswer (rangeTests (now (front .entry)) block (now (values .entry)))) r (now (place .exit))
+        ⌝ }
 {
     hand(check_block(front, block, values), place)
 }
@@ -274,7 +300,9 @@ pub extern "C" fn fascjoldi_body_first(
     start: &mut usize,
     length: &mut u32,
 )
-    ensures { λ _. ⌜ BodyHanded (firstBody (now (front .entry))) (now (number .exit)) (now (start .exit)) (now (length .exit)) ⌝ }
+    ensures { λ _. ⌜
+        BodyHanded (firstBody (now (front .entry))) (now (number .exit)) (now (start .exit)) (now (length .exit))
+        ⌝ }
 {
     hand_body(first(front), number, start, length);
 }
@@ -291,7 +319,11 @@ pub extern "C" fn fascjoldi_body_next(
     start: &mut usize,
     length: &mut u32,
 )
-    ensures { λ _. ⌜ BodyHanded (nextBody (now (front .entry)) (bodyAt (now (front .entry)) (now (number .entry)) (now (start .entry)))) (now (number .exit)) (now (start .exit)) (now (length .exit)) ⌝ }
+    ensures { λ _. ⌜
+        BodyHanded
+        (nextBody (now (front .entry)) (bodyAt (now (front .entry)) (now (number .entry)) (now (start .entry))))
+        (now (number .exit)) (now (start .exit)) (now (length .exit))
+        ⌝ }
 {
     hand_body(behind(front, *number, *start), number, start, length);
 }
@@ -306,9 +338,10 @@ pub extern "C" fn fascjoldi_search_opens(front: &[u8], block: usize, low: u64, h
     opens(front, block, low, high)
 }
 
-// Lists the rows of a block, whose 1,024 numbers were laid down, that lie between two bounds, both included, and says how many they are, and that one
-// block was opened; refused, both are 0. Values that are not 1,024 long are refused with 2, a block that no file has, 256 or higher, with 12, and room that is
-// too short with 14. The room behind the rows stays as it was.
+// Lists the rows of a block, whose 1,024 numbers were laid down, that lie between two bounds, both included, and says
+// how many they are, and that one block was opened; refused, both are 0. Values that are not 1,024 long are refused
+// with 2, a block that no file has, 256 or higher, with 12, and room that is too short with 14. The room behind the
+// rows stays as it was.
 #[no_mangle]
 pub extern "C" fn fascjoldi_search_rows(
     values: &[u64],
@@ -320,7 +353,10 @@ pub extern "C" fn fascjoldi_search_rows(
     opened: &mut usize,
     place: &mut usize,
 ) -> usize
-    ensures { λ r. ⌜ FoundHanded (listedOf (now (values .entry)) block low high (now (rows .entry))) r (now (found .exit)) (now (opened .exit)) (now (place .exit)) ⌝ }
+    ensures { λ r. ⌜
+        FoundHanded (listedOf (now (values .entry)) block low high (now (rows .entry))) r (now (found .exit))
+        (now (opened .exit)) (now (place .exit))
+        ⌝ }
     ensures { λ _. ⌜ now (rows .exit) ≡ listedLeaves (now (values .entry)) block low high (now (rows .entry)) ⌝ }
 {
     hand_found(
@@ -331,8 +367,8 @@ pub extern "C" fn fascjoldi_search_rows(
     )
 }
 
-// Lists the places at which two blocks of 1,024 numbers differ, rising, and gives how many they are; refused, the count is 0. The places behind
-// these stay as they were. A block or room for places that is not 1,024 long is refused with 2.
+// Lists the places at which two blocks of 1,024 numbers differ, rising, and gives how many they are; refused, the count
+// is 0. The places behind these stay as they were. A block or room for places that is not 1,024 long is refused with 2.
 #[no_mangle]
 pub extern "C" fn fascjoldi_block_differing(
     left: &[u64],
@@ -341,8 +377,14 @@ pub extern "C" fn fascjoldi_block_differing(
     count: &mut usize,
     place: &mut usize,
 ) -> usize
-    ensures { λ r. ⌜ ComparedHanded (comparedOf (now (left .entry)) (now (right .entry)) (now (places .entry))) r (now (count .exit)) (now (place .exit)) ⌝ }
-    ensures { λ _. ⌜ now (places .exit) ≡ differingLeaves (now (left .entry)) (now (right .entry)) (now (places .entry)) ⌝ }
+    ensures { λ r. ⌜
+        ComparedHanded (comparedOf (now (left .entry)) (now (right .entry)) (now (places .entry))) r (now (count .exit))
+        (now (place .exit))
+        ⌝ }
+    ensures { λ _. ⌜
+        now (places .exit)
+        ≡ differingLeaves (now (left .entry)) (now (right .entry)) (now (places .entry))
+        ⌝ }
 {
     hand_compared(differing(left, right, places), count, place)
 }
@@ -409,7 +451,10 @@ fn hand_entry(
     length: &mut u32,
     reference: &mut u64,
 )
-    ensures { λ _. ⌜ EntryHanded e (now (kind .exit)) (now (width .exit)) (now (zero .exit)) (now (length .exit)) (now (reference .exit)) ⌝ }
+    ensures { λ _. ⌜
+        EntryHanded e (now (kind .exit)) (now (width .exit)) (now (zero .exit)) (now (length .exit))
+        (now (reference .exit))
+        ⌝ }
 {
     *kind = e.kind;
     *width = e.width;

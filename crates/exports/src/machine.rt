@@ -29,7 +29,10 @@ pub extern "C" fn fascjoldi_listing_start(
     start: &mut usize,
     length: &mut usize,
 ) -> usize
-    ensures { λ r. ⌜ TurnHanded (startOf «left_size» «right_size») (now (state .exit)) r (now (side .exit)) (now (part .exit)) (now (start .exit)) (now (length .exit)) ⌝ }
+    ensures { λ r. ⌜
+        TurnHanded (startOf «left_size» «right_size») (now (state .exit)) r (now (side .exit)) (now (part .exit))
+        (now (start .exit)) (now (length .exit))
+        ⌝ }
 {
     hand_turn(
         listing::start(left_size, right_size),
@@ -57,8 +60,16 @@ pub extern "C" fn fascjoldi_listing_next(
     start: &mut usize,
     length: &mut usize,
 ) -> usize
-    ensures { λ r. ⌜ TurnHanded (turnOf (nextOf (stateOf (now (state .entry))) (held (now («left_front» .entry)) (now («right_front» .entry)) (now («left_body» .entry)) (now («right_body» .entry))) (now (output .entry)))) (now (state .exit)) r (now (side .exit)) (now (part .exit)) (now (start .exit)) (now (length .exit)) ⌝ }
-    ensures { λ _. ⌜ now (output .exit) ≡ nextOf (stateOf (now (state .entry))) (held (now («left_front» .entry)) (now («right_front» .entry)) (now («left_body» .entry)) (now («right_body» .entry))) (now (output .entry)) .out ⌝ }
+    ensures { λ r. ⌜
+        TurnHanded (turnOf (nextOf (stateOf (now (state .entry))) (held (now («left_front» .entry))
+        (now («right_front» .entry)) (now («left_body» .entry)) (now («right_body» .entry))) (now (output .entry))))
+        (now (state .exit)) r (now (side .exit)) (now (part .exit)) (now (start .exit)) (now (length .exit))
+        ⌝ }
+    ensures { λ _. ⌜
+        now (output .exit)
+        ≡ nextOf (stateOf (now (state .entry))) (held (now («left_front» .entry)) (now («right_front» .entry))
+        (now («left_body» .entry)) (now («right_body» .entry))) (now (output .entry)) .out
+        ⌝ }
 {
     hand_turn(
         next(
@@ -96,7 +107,10 @@ fn hand_turn(
     start: &mut usize,
     length: &mut usize,
 ) -> usize
-    ensures { λ r. ⌜ TurnHanded turn (now (state .exit)) r (now (side .exit)) (now (part .exit)) (now (start .exit)) (now (length .exit)) ⌝ }
+    ensures { λ r. ⌜
+        TurnHanded turn (now (state .exit)) r (now (side .exit)) (now (part .exit)) (now (start .exit))
+        (now (length .exit))
+        ⌝ }
 {
     let behind = turn.state;
     *state = numbers(behind);

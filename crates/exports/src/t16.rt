@@ -1,6 +1,6 @@
 // Written by tools/sizes from the text of size 64: edit that one, and run tools/sizes.
-// The calls on blocks of u16 values, for programs in C and in Rust. Where a call gives more than an answer, each thing that it gives has
-// a lent number of its own, and the place is the last of them.
+// The calls on blocks of u16 values, for programs in C and in Rust. Where a call gives more than an answer, each thing
+// that it gives has a lent number of its own, and the place is the last of them.
 use crate::hand;
 use crate::hand_front;
 use crate::hand_list;
@@ -47,7 +47,9 @@ pub extern "C" fn fascjoldi_pack_u16(
     packed: &mut [u16],
     place: &mut usize,
 ) -> usize
-    ensures { λ r. ⌜ Handed (answerFor (packTakes t16 width (now (values .entry)) (now (packed .entry)))) r (now (place .exit)) ⌝ }
+    ensures { λ r. ⌜
+        Handed (answerFor (packTakes t16 width (now (values .entry)) (now (packed .entry)))) r (now (place .exit))
+        ⌝ }
     ensures { λ _. ⌜ now (packed .exit) ≡ packLeaves t16 width (now (values .entry)) (now (packed .entry)) ⌝ }
 {
     hand(pack(width, values, packed), place)
@@ -61,13 +63,16 @@ pub extern "C" fn fascjoldi_unpack_u16(
     values: &mut [u16],
     place: &mut usize,
 ) -> usize
-    ensures { λ r. ⌜ Handed (answerFor (packTakes t16 width (now (values .entry)) (now (packed .entry)))) r (now (place .exit)) ⌝ }
+    ensures { λ r. ⌜
+        Handed (answerFor (packTakes t16 width (now (values .entry)) (now (packed .entry)))) r (now (place .exit))
+        ⌝ }
     ensures { λ _. ⌜ now (values .exit) ≡ unpackLeaves t16 width (now (values .entry)) (now (packed .entry)) ⌝ }
 {
     hand(unpack(width, packed, values), place)
 }
 
-// Unpacks the value at one place of a packed block, and says in how many packed words it stands; refused, the value is 0 and the words 2^64 - 1.
+// Unpacks the value at one place of a packed block, and says in how many packed words it stands; refused, the value is
+// 0 and the words 2^64 - 1.
 #[no_mangle]
 pub extern "C" fn fascjoldi_unpack_single_u16(
     width: usize,
@@ -77,7 +82,11 @@ pub extern "C" fn fascjoldi_unpack_single_u16(
     words: &mut Words,
     place: &mut usize,
 ) -> usize
-    ensures { λ r. ⌜ SingleHanded answerOf valueOf wordsOf (singleOf Single.Value Single.Refused t16 width (now (packed .entry)) index) r (now (value .exit)) (now (words .exit)) (now (place .exit)) ⌝ }
+    ensures { λ r. ⌜
+        SingleHanded answerOf valueOf wordsOf
+        (singleOf Single.Value Single.Refused t16 width (now (packed .entry)) index) r (now (value .exit))
+        (now (words .exit)) (now (place .exit))
+        ⌝ }
 {
     hand_single(unpack_single(width, packed, index), value, words, place)
 }
@@ -90,7 +99,8 @@ pub extern "C" fn fascjoldi_words_at_u16(width: usize, index: usize) -> Words
     words_at(width, index)
 }
 
-// Unpacks the values at a list of places, and says how many packed words they stand in, counted for each; refused, the words are 0.
+// Unpacks the values at a list of places, and says how many packed words they stand in, counted for each; refused, the
+// words are 0.
 #[no_mangle]
 pub extern "C" fn fascjoldi_unpack_indices_u16(
     width: usize,
@@ -100,14 +110,20 @@ pub extern "C" fn fascjoldi_unpack_indices_u16(
     words: &mut Words,
     place: &mut usize,
 ) -> usize
-    ensures { λ r. ⌜ ListHanded (listGives t16 width (now (packed .entry)) (now (indices .entry)) (now (output .entry))) r (now (words .exit)) (now (place .exit)) ⌝ }
-    ensures { λ _. ⌜ now (output .exit) ≡ listLeaves t16 width (now (packed .entry)) (now (indices .entry)) (now (output .entry)) ⌝ }
+    ensures { λ r. ⌜
+        ListHanded (listGives t16 width (now (packed .entry)) (now (indices .entry)) (now (output .entry))) r
+        (now (words .exit)) (now (place .exit))
+        ⌝ }
+    ensures { λ _. ⌜
+        now (output .exit)
+        ≡ listLeaves t16 width (now (packed .entry)) (now (indices .entry)) (now (output .entry))
+        ⌝ }
 {
     hand_list(unpack_indices(width, packed, indices, output), words, place)
 }
 
-// Unpacks the values at the first places of a list, as many as the budget of words is enough for, and says how many these are and how many words they stand in;
-// refused, both are 0. The outputs behind these stay as they were.
+// Unpacks the values at the first places of a list, as many as the budget of words is enough for, and says how many
+// these are and how many words they stand in; refused, both are 0. The outputs behind these stay as they were.
 #[no_mangle]
 pub extern "C" fn fascjoldi_unpack_within_u16(
     width: usize,
@@ -119,7 +135,10 @@ pub extern "C" fn fascjoldi_unpack_within_u16(
     words: &mut Words,
     place: &mut usize,
 ) -> usize
-    ensures { λ r. ⌜ FrontHanded (withinGives t16 width (now (packed .entry)) (now (indices .entry)) (now (output .entry)) budget) r (now (answered .exit)) (now (words .exit)) (now (place .exit)) ⌝ }
+    ensures { λ r. ⌜
+        FrontHanded (withinGives t16 width (now (packed .entry)) (now (indices .entry)) (now (output .entry)) budget) r
+        (now (answered .exit)) (now (words .exit)) (now (place .exit))
+        ⌝ }
     ensures { λ _. ⌜ now (output .exit) ≡ withinLeaves t16 width (now (packed .entry)) (now (indices .entry)) (now (output .entry)) budget ⌝ }
 {
     hand_front(
@@ -138,7 +157,10 @@ pub extern "C" fn fascjoldi_delta_u16(
     output: &mut [u16],
     place: &mut usize,
 ) -> usize
-    ensures { λ r. ⌜ Handed (answerFor (deltaTakes t16 (now (input .entry)) (now (base .entry)) (now (output .entry)))) r (now (place .exit)) ⌝ }
+    ensures { λ r. ⌜
+        Handed (answerFor (deltaTakes t16 (now (input .entry)) (now (base .entry)) (now (output .entry)))) r
+        (now (place .exit))
+        ⌝ }
     ensures { λ _. ⌜ now (output .exit) ≡ deltaLeaves t16 (now (input .entry)) (now (base .entry)) (now (output .entry)) ⌝ }
 {
     hand(delta(input, base, output), place)
@@ -152,8 +174,14 @@ pub extern "C" fn fascjoldi_undelta_u16(
     output: &mut [u16],
     place: &mut usize,
 ) -> usize
-    ensures { λ r. ⌜ Handed (answerFor (deltaTakes t16 (now (input .entry)) (now (base .entry)) (now (output .entry)))) r (now (place .exit)) ⌝ }
-    ensures { λ _. ⌜ now (output .exit) ≡ undeltaLeaves t16 (now (input .entry)) (now (base .entry)) (now (output .entry)) ⌝ }
+    ensures { λ r. ⌜
+        Handed (answerFor (deltaTakes t16 (now (input .entry)) (now (base .entry)) (now (output .entry)))) r
+        (now (place .exit))
+        ⌝ }
+    ensures { λ _. ⌜
+        now (output .exit)
+        ≡ undeltaLeaves t16 (now (input .entry)) (now (base .entry)) (now (output .entry))
+        ⌝ }
 {
     hand(undelta(input, base, output), place)
 }
@@ -167,7 +195,10 @@ pub extern "C" fn fascjoldi_undelta_pack_u16(
     values: &mut [u16],
     place: &mut usize,
 ) -> usize
-    ensures { λ r. ⌜ Handed (answerFor (undeltaPackTakes t16 width (now (values .entry)) (now (packed .entry)) (now (base .entry)))) r (now (place .exit)) ⌝ }
+    ensures { λ r. ⌜
+        Handed (answerFor (undeltaPackTakes t16 width (now (values .entry)) (now (packed .entry)) (now (base .entry))))
+        r (now (place .exit))
+        ⌝ }
     ensures { λ _. ⌜ now (values .exit) ≡ undeltaPackLeaves t16 width (now (values .entry)) (now (packed .entry)) (now (base .entry)) ⌝ }
 {
     hand(undelta_pack(width, packed, base, values), place)
@@ -182,8 +213,13 @@ pub extern "C" fn fascjoldi_for_pack_u16(
     packed: &mut [u16],
     place: &mut usize,
 ) -> usize
-    ensures { λ r. ⌜ Handed (answerFor (packTakes t16 width (now (values .entry)) (now (packed .entry)))) r (now (place .exit)) ⌝ }
-    ensures { λ _. ⌜ now (packed .exit) ≡ forPackLeaves t16 width (now (values .entry)) (now (packed .entry)) reference ⌝ }
+    ensures { λ r. ⌜
+        Handed (answerFor (packTakes t16 width (now (values .entry)) (now (packed .entry)))) r (now (place .exit))
+        ⌝ }
+    ensures { λ _. ⌜
+        now (packed .exit)
+        ≡ forPackLeaves t16 width (now (values .entry)) (now (packed .entry)) reference
+        ⌝ }
 {
     hand(for_pack(width, values, reference, packed), place)
 }
@@ -197,14 +233,19 @@ pub extern "C" fn fascjoldi_unfor_pack_u16(
     values: &mut [u16],
     place: &mut usize,
 ) -> usize
-    ensures { λ r. ⌜ Handed (answerFor (packTakes t16 width (now (values .entry)) (now (packed .entry)))) r (now (place .exit)) ⌝ }
-    ensures { λ _. ⌜ now (values .exit) ≡ unforPackLeaves t16 width (now (values .entry)) (now (packed .entry)) reference ⌝ }
+    ensures { λ r. ⌜
+        Handed (answerFor (packTakes t16 width (now (values .entry)) (now (packed .entry)))) r (now (place .exit))
+        ⌝ }
+    ensures { λ _. ⌜
+        now (values .exit)
+        ≡ unforPackLeaves t16 width (now (values .entry)) (now (packed .entry)) reference
+        ⌝ }
 {
     hand(unfor_pack(width, packed, reference, values), place)
 }
 
-// Unpacks so many blocks of one width that stand one after another: 2 where there are more than 256 or the values are not 1,024 for each, and 3 where the
-// packed length is not that of so many blocks.
+// Unpacks so many blocks of one width that stand one after another: 2 where there are more than 256 or the values are
+// not 1,024 for each, and 3 where the packed length is not that of so many blocks.
 #[no_mangle]
 pub extern "C" fn fascjoldi_unpack_blocks_u16(
     width: usize,
@@ -213,8 +254,13 @@ pub extern "C" fn fascjoldi_unpack_blocks_u16(
     values: &mut [u16],
     place: &mut usize,
 ) -> usize
-    ensures { λ r. ⌜ Handed (drawerAnswer t16 width blocks (now (values .entry)) (now (packed .entry))) r (now (place .exit)) ⌝ }
-    ensures { λ _. ⌜ now (values .exit) ≡ unpackBlocksLeaves t16 width blocks (now (values .entry)) (now (packed .entry)) ⌝ }
+    ensures { λ r. ⌜
+        Handed (drawerAnswer t16 width blocks (now (values .entry)) (now (packed .entry))) r (now (place .exit))
+        ⌝ }
+    ensures { λ _. ⌜
+        now (values .exit)
+        ≡ unpackBlocksLeaves t16 width blocks (now (values .entry)) (now (packed .entry))
+        ⌝ }
 {
     hand(unpack_blocks(width, blocks, packed, values), place)
 }
@@ -229,8 +275,13 @@ pub extern "C" fn fascjoldi_for_pack_blocks_u16(
     packed: &mut [u16],
     place: &mut usize,
 ) -> usize
-    ensures { λ r. ⌜ Handed (drawerAnswer t16 width blocks (now (values .entry)) (now (packed .entry))) r (now (place .exit)) ⌝ }
-    ensures { λ _. ⌜ now (packed .exit) ≡ forPackBlocksLeaves t16 width blocks (now (values .entry)) (now (packed .entry)) reference ⌝ }
+    ensures { λ r. ⌜
+        Handed (drawerAnswer t16 width blocks (now (values .entry)) (now (packed .entry))) r (now (place .exit))
+        ⌝ }
+    ensures { λ _. ⌜
+        now (packed .exit)
+        ≡ forPackBlocksLeaves t16 width blocks (now (values .entry)) (now (packed .entry)) reference
+        ⌝ }
 {
     hand(
         for_pack_blocks(width, blocks, values, reference, packed),
@@ -246,8 +297,14 @@ pub extern "C" fn fascjoldi_decode_u16(
     output: &mut [u16],
     place: &mut usize,
 ) -> usize
-    ensures { λ r. ⌜ Handed (answerFor (decodeTakes (now (dictionary .entry)) (now (indices .entry)) (now (output .entry)))) r (now (place .exit)) ⌝ }
-    ensures { λ _. ⌜ now (output .exit) ≡ decodeLeaves (now (dictionary .entry)) (now (indices .entry)) (now (output .entry)) ⌝ }
+    ensures { λ r. ⌜
+        Handed (answerFor (decodeTakes (now (dictionary .entry)) (now (indices .entry)) (now (output .entry)))) r
+        (now (place .exit))
+        ⌝ }
+    ensures { λ _. ⌜
+        now (output .exit)
+        ≡ decodeLeaves (now (dictionary .entry)) (now (indices .entry)) (now (output .entry))
+        ⌝ }
 {
     hand(decode(dictionary, indices, output), place)
 }
@@ -259,7 +316,9 @@ pub extern "C" fn fascjoldi_transpose_u16(
     output: &mut [u16],
     place: &mut usize,
 ) -> usize
-    ensures { λ r. ⌜ Handed (answerFor (transposeTakes (now (input .entry)) (now (output .entry)))) r (now (place .exit)) ⌝ }
+    ensures { λ r. ⌜
+        Handed (answerFor (transposeTakes (now (input .entry)) (now (output .entry)))) r (now (place .exit))
+        ⌝ }
     ensures { λ _. ⌜ now (output .exit) ≡ transposeLeaves (now (input .entry)) (now (output .entry)) ⌝ }
 {
     hand(transpose(input, output), place)
@@ -272,7 +331,9 @@ pub extern "C" fn fascjoldi_untranspose_u16(
     output: &mut [u16],
     place: &mut usize,
 ) -> usize
-    ensures { λ r. ⌜ Handed (answerFor (transposeTakes (now (input .entry)) (now (output .entry)))) r (now (place .exit)) ⌝ }
+    ensures { λ r. ⌜
+        Handed (answerFor (transposeTakes (now (input .entry)) (now (output .entry)))) r (now (place .exit))
+        ⌝ }
     ensures { λ _. ⌜ now (output .exit) ≡ untransposeLeaves (now (input .entry)) (now (output .entry)) ⌝ }
 {
     hand(untranspose(input, output), place)
@@ -288,7 +349,9 @@ pub extern "C" fn fascjoldi_transpose_bits_u16(input: &BitBlock, output: &mut Bi
 
 // Hands over what single access gives.
 fn hand_single(single: Single, value: &mut u16, words: &mut Words, place: &mut usize) -> usize
-    ensures { λ r. ⌜ SingleHanded answerOf valueOf wordsOf single r (now (value .exit)) (now (words .exit)) (now (place .exit)) ⌝ }
+    ensures { λ r. ⌜
+        SingleHanded answerOf valueOf wordsOf single r (now (value .exit)) (now (words .exit)) (now (place .exit))
+        ⌝ }
 {
     *value = single.value();
     *words = single.words();

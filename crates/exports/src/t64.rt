@@ -1,5 +1,5 @@
-// The calls on blocks of u64 values, for programs in C and in Rust. Where a call gives more than an answer, each thing that it gives has
-// a lent number of its own, and the place is the last of them.
+// The calls on blocks of u64 values, for programs in C and in Rust. Where a call gives more than an answer, each thing
+// that it gives has a lent number of its own, and the place is the last of them.
 use crate::hand;
 use crate::hand_front;
 use crate::hand_list;
@@ -46,7 +46,9 @@ pub extern "C" fn fascjoldi_pack_u64(
     packed: &mut [u64],
     place: &mut usize,
 ) -> usize
-    ensures { λ r. ⌜ Handed (answerFor (packTakes t64 width (now (values .entry)) (now (packed .entry)))) r (now (place .exit)) ⌝ }
+    ensures { λ r. ⌜
+        Handed (answerFor (packTakes t64 width (now (values .entry)) (now (packed .entry)))) r (now (place .exit))
+        ⌝ }
     ensures { λ _. ⌜ now (packed .exit) ≡ packLeaves t64 width (now (values .entry)) (now (packed .entry)) ⌝ }
 {
     hand(pack(width, values, packed), place)
@@ -60,13 +62,16 @@ pub extern "C" fn fascjoldi_unpack_u64(
     values: &mut [u64],
     place: &mut usize,
 ) -> usize
-    ensures { λ r. ⌜ Handed (answerFor (packTakes t64 width (now (values .entry)) (now (packed .entry)))) r (now (place .exit)) ⌝ }
+    ensures { λ r. ⌜
+        Handed (answerFor (packTakes t64 width (now (values .entry)) (now (packed .entry)))) r (now (place .exit))
+        ⌝ }
     ensures { λ _. ⌜ now (values .exit) ≡ unpackLeaves t64 width (now (values .entry)) (now (packed .entry)) ⌝ }
 {
     hand(unpack(width, packed, values), place)
 }
 
-// Unpacks the value at one place of a packed block, and says in how many packed words it stands; refused, the value is 0 and the words 2^64 - 1.
+// Unpacks the value at one place of a packed block, and says in how many packed words it stands; refused, the value is
+// 0 and the words 2^64 - 1.
 #[no_mangle]
 pub extern "C" fn fascjoldi_unpack_single_u64(
     width: usize,
@@ -76,7 +81,11 @@ pub extern "C" fn fascjoldi_unpack_single_u64(
     words: &mut Words,
     place: &mut usize,
 ) -> usize
-    ensures { λ r. ⌜ SingleHanded answerOf valueOf wordsOf (singleOf Single.Value Single.Refused t64 width (now (packed .entry)) index) r (now (value .exit)) (now (words .exit)) (now (place .exit)) ⌝ }
+    ensures { λ r. ⌜
+        SingleHanded answerOf valueOf wordsOf
+        (singleOf Single.Value Single.Refused t64 width (now (packed .entry)) index) r (now (value .exit))
+        (now (words .exit)) (now (place .exit))
+        ⌝ }
 {
     hand_single(unpack_single(width, packed, index), value, words, place)
 }
@@ -89,7 +98,8 @@ pub extern "C" fn fascjoldi_words_at_u64(width: usize, index: usize) -> Words
     words_at(width, index)
 }
 
-// Unpacks the values at a list of places, and says how many packed words they stand in, counted for each; refused, the words are 0.
+// Unpacks the values at a list of places, and says how many packed words they stand in, counted for each; refused, the
+// words are 0.
 #[no_mangle]
 pub extern "C" fn fascjoldi_unpack_indices_u64(
     width: usize,
@@ -99,14 +109,20 @@ pub extern "C" fn fascjoldi_unpack_indices_u64(
     words: &mut Words,
     place: &mut usize,
 ) -> usize
-    ensures { λ r. ⌜ ListHanded (listGives t64 width (now (packed .entry)) (now (indices .entry)) (now (output .entry))) r (now (words .exit)) (now (place .exit)) ⌝ }
-    ensures { λ _. ⌜ now (output .exit) ≡ listLeaves t64 width (now (packed .entry)) (now (indices .entry)) (now (output .entry)) ⌝ }
+    ensures { λ r. ⌜
+        ListHanded (listGives t64 width (now (packed .entry)) (now (indices .entry)) (now (output .entry))) r
+        (now (words .exit)) (now (place .exit))
+        ⌝ }
+    ensures { λ _. ⌜
+        now (output .exit)
+        ≡ listLeaves t64 width (now (packed .entry)) (now (indices .entry)) (now (output .entry))
+        ⌝ }
 {
     hand_list(unpack_indices(width, packed, indices, output), words, place)
 }
 
-// Unpacks the values at the first places of a list, as many as the budget of words is enough for, and says how many these are and how many words they stand in;
-// refused, both are 0. The outputs behind these stay as they were.
+// Unpacks the values at the first places of a list, as many as the budget of words is enough for, and says how many
+// these are and how many words they stand in; refused, both are 0. The outputs behind these stay as they were.
 #[no_mangle]
 pub extern "C" fn fascjoldi_unpack_within_u64(
     width: usize,
@@ -118,7 +134,10 @@ pub extern "C" fn fascjoldi_unpack_within_u64(
     words: &mut Words,
     place: &mut usize,
 ) -> usize
-    ensures { λ r. ⌜ FrontHanded (withinGives t64 width (now (packed .entry)) (now (indices .entry)) (now (output .entry)) budget) r (now (answered .exit)) (now (words .exit)) (now (place .exit)) ⌝ }
+    ensures { λ r. ⌜
+        FrontHanded (withinGives t64 width (now (packed .entry)) (now (indices .entry)) (now (output .entry)) budget) r
+        (now (answered .exit)) (now (words .exit)) (now (place .exit))
+        ⌝ }
     ensures { λ _. ⌜ now (output .exit) ≡ withinLeaves t64 width (now (packed .entry)) (now (indices .entry)) (now (output .entry)) budget ⌝ }
 {
     hand_front(
@@ -137,7 +156,10 @@ pub extern "C" fn fascjoldi_delta_u64(
     output: &mut [u64],
     place: &mut usize,
 ) -> usize
-    ensures { λ r. ⌜ Handed (answerFor (deltaTakes t64 (now (input .entry)) (now (base .entry)) (now (output .entry)))) r (now (place .exit)) ⌝ }
+    ensures { λ r. ⌜
+        Handed (answerFor (deltaTakes t64 (now (input .entry)) (now (base .entry)) (now (output .entry)))) r
+        (now (place .exit))
+        ⌝ }
     ensures { λ _. ⌜ now (output .exit) ≡ deltaLeaves t64 (now (input .entry)) (now (base .entry)) (now (output .entry)) ⌝ }
 {
     hand(delta(input, base, output), place)
@@ -151,8 +173,14 @@ pub extern "C" fn fascjoldi_undelta_u64(
     output: &mut [u64],
     place: &mut usize,
 ) -> usize
-    ensures { λ r. ⌜ Handed (answerFor (deltaTakes t64 (now (input .entry)) (now (base .entry)) (now (output .entry)))) r (now (place .exit)) ⌝ }
-    ensures { λ _. ⌜ now (output .exit) ≡ undeltaLeaves t64 (now (input .entry)) (now (base .entry)) (now (output .entry)) ⌝ }
+    ensures { λ r. ⌜
+        Handed (answerFor (deltaTakes t64 (now (input .entry)) (now (base .entry)) (now (output .entry)))) r
+        (now (place .exit))
+        ⌝ }
+    ensures { λ _. ⌜
+        now (output .exit)
+        ≡ undeltaLeaves t64 (now (input .entry)) (now (base .entry)) (now (output .entry))
+        ⌝ }
 {
     hand(undelta(input, base, output), place)
 }
@@ -166,7 +194,10 @@ pub extern "C" fn fascjoldi_undelta_pack_u64(
     values: &mut [u64],
     place: &mut usize,
 ) -> usize
-    ensures { λ r. ⌜ Handed (answerFor (undeltaPackTakes t64 width (now (values .entry)) (now (packed .entry)) (now (base .entry)))) r (now (place .exit)) ⌝ }
+    ensures { λ r. ⌜
+        Handed (answerFor (undeltaPackTakes t64 width (now (values .entry)) (now (packed .entry)) (now (base .entry))))
+        r (now (place .exit))
+        ⌝ }
     ensures { λ _. ⌜ now (values .exit) ≡ undeltaPackLeaves t64 width (now (values .entry)) (now (packed .entry)) (now (base .entry)) ⌝ }
 {
     hand(undelta_pack(width, packed, base, values), place)
@@ -181,8 +212,13 @@ pub extern "C" fn fascjoldi_for_pack_u64(
     packed: &mut [u64],
     place: &mut usize,
 ) -> usize
-    ensures { λ r. ⌜ Handed (answerFor (packTakes t64 width (now (values .entry)) (now (packed .entry)))) r (now (place .exit)) ⌝ }
-    ensures { λ _. ⌜ now (packed .exit) ≡ forPackLeaves t64 width (now (values .entry)) (now (packed .entry)) reference ⌝ }
+    ensures { λ r. ⌜
+        Handed (answerFor (packTakes t64 width (now (values .entry)) (now (packed .entry)))) r (now (place .exit))
+        ⌝ }
+    ensures { λ _. ⌜
+        now (packed .exit)
+        ≡ forPackLeaves t64 width (now (values .entry)) (now (packed .entry)) reference
+        ⌝ }
 {
     hand(for_pack(width, values, reference, packed), place)
 }
@@ -196,14 +232,19 @@ pub extern "C" fn fascjoldi_unfor_pack_u64(
     values: &mut [u64],
     place: &mut usize,
 ) -> usize
-    ensures { λ r. ⌜ Handed (answerFor (packTakes t64 width (now (values .entry)) (now (packed .entry)))) r (now (place .exit)) ⌝ }
-    ensures { λ _. ⌜ now (values .exit) ≡ unforPackLeaves t64 width (now (values .entry)) (now (packed .entry)) reference ⌝ }
+    ensures { λ r. ⌜
+        Handed (answerFor (packTakes t64 width (now (values .entry)) (now (packed .entry)))) r (now (place .exit))
+        ⌝ }
+    ensures { λ _. ⌜
+        now (values .exit)
+        ≡ unforPackLeaves t64 width (now (values .entry)) (now (packed .entry)) reference
+        ⌝ }
 {
     hand(unfor_pack(width, packed, reference, values), place)
 }
 
-// Unpacks so many blocks of one width that stand one after another: 2 where there are more than 256 or the values are not 1,024 for each, and 3 where the
-// packed length is not that of so many blocks.
+// Unpacks so many blocks of one width that stand one after another: 2 where there are more than 256 or the values are
+// not 1,024 for each, and 3 where the packed length is not that of so many blocks.
 #[no_mangle]
 pub extern "C" fn fascjoldi_unpack_blocks_u64(
     width: usize,
@@ -212,8 +253,13 @@ pub extern "C" fn fascjoldi_unpack_blocks_u64(
     values: &mut [u64],
     place: &mut usize,
 ) -> usize
-    ensures { λ r. ⌜ Handed (drawerAnswer t64 width blocks (now (values .entry)) (now (packed .entry))) r (now (place .exit)) ⌝ }
-    ensures { λ _. ⌜ now (values .exit) ≡ unpackBlocksLeaves t64 width blocks (now (values .entry)) (now (packed .entry)) ⌝ }
+    ensures { λ r. ⌜
+        Handed (drawerAnswer t64 width blocks (now (values .entry)) (now (packed .entry))) r (now (place .exit))
+        ⌝ }
+    ensures { λ _. ⌜
+        now (values .exit)
+        ≡ unpackBlocksLeaves t64 width blocks (now (values .entry)) (now (packed .entry))
+        ⌝ }
 {
     hand(unpack_blocks(width, blocks, packed, values), place)
 }
@@ -228,8 +274,13 @@ pub extern "C" fn fascjoldi_for_pack_blocks_u64(
     packed: &mut [u64],
     place: &mut usize,
 ) -> usize
-    ensures { λ r. ⌜ Handed (drawerAnswer t64 width blocks (now (values .entry)) (now (packed .entry))) r (now (place .exit)) ⌝ }
-    ensures { λ _. ⌜ now (packed .exit) ≡ forPackBlocksLeaves t64 width blocks (now (values .entry)) (now (packed .entry)) reference ⌝ }
+    ensures { λ r. ⌜
+        Handed (drawerAnswer t64 width blocks (now (values .entry)) (now (packed .entry))) r (now (place .exit))
+        ⌝ }
+    ensures { λ _. ⌜
+        now (packed .exit)
+        ≡ forPackBlocksLeaves t64 width blocks (now (values .entry)) (now (packed .entry)) reference
+        ⌝ }
 {
     hand(
         for_pack_blocks(width, blocks, values, reference, packed),
@@ -245,8 +296,14 @@ pub extern "C" fn fascjoldi_decode_u64(
     output: &mut [u64],
     place: &mut usize,
 ) -> usize
-    ensures { λ r. ⌜ Handed (answerFor (decodeTakes (now (dictionary .entry)) (now (indices .entry)) (now (output .entry)))) r (now (place .exit)) ⌝ }
-    ensures { λ _. ⌜ now (output .exit) ≡ decodeLeaves (now (dictionary .entry)) (now (indices .entry)) (now (output .entry)) ⌝ }
+    ensures { λ r. ⌜
+        Handed (answerFor (decodeTakes (now (dictionary .entry)) (now (indices .entry)) (now (output .entry)))) r
+        (now (place .exit))
+        ⌝ }
+    ensures { λ _. ⌜
+        now (output .exit)
+        ≡ decodeLeaves (now (dictionary .entry)) (now (indices .entry)) (now (output .entry))
+        ⌝ }
 {
     hand(decode(dictionary, indices, output), place)
 }
@@ -258,7 +315,9 @@ pub extern "C" fn fascjoldi_transpose_u64(
     output: &mut [u64],
     place: &mut usize,
 ) -> usize
-    ensures { λ r. ⌜ Handed (answerFor (transposeTakes (now (input .entry)) (now (output .entry)))) r (now (place .exit)) ⌝ }
+    ensures { λ r. ⌜
+        Handed (answerFor (transposeTakes (now (input .entry)) (now (output .entry)))) r (now (place .exit))
+        ⌝ }
     ensures { λ _. ⌜ now (output .exit) ≡ transposeLeaves (now (input .entry)) (now (output .entry)) ⌝ }
 {
     hand(transpose(input, output), place)
@@ -271,7 +330,9 @@ pub extern "C" fn fascjoldi_untranspose_u64(
     output: &mut [u64],
     place: &mut usize,
 ) -> usize
-    ensures { λ r. ⌜ Handed (answerFor (transposeTakes (now (input .entry)) (now (output .entry)))) r (now (place .exit)) ⌝ }
+    ensures { λ r. ⌜
+        Handed (answerFor (transposeTakes (now (input .entry)) (now (output .entry)))) r (now (place .exit))
+        ⌝ }
     ensures { λ _. ⌜ now (output .exit) ≡ untransposeLeaves (now (input .entry)) (now (output .entry)) ⌝ }
 {
     hand(untranspose(input, output), place)
@@ -287,7 +348,9 @@ pub extern "C" fn fascjoldi_transpose_bits_u64(input: &BitBlock, output: &mut Bi
 
 // Hands over what single access gives.
 fn hand_single(single: Single, value: &mut u64, words: &mut Words, place: &mut usize) -> usize
-    ensures { λ r. ⌜ SingleHanded answerOf valueOf wordsOf single r (now (value .exit)) (now (words .exit)) (now (place .exit)) ⌝ }
+    ensures { λ r. ⌜
+        SingleHanded answerOf valueOf wordsOf single r (now (value .exit)) (now (words .exit)) (now (place .exit))
+        ⌝ }
 {
     *value = single.value();
     *words = single.words();

@@ -48,7 +48,11 @@ pub extern "C" fn fascjoldi_summary_of_block(
     smallest: &mut u64,
     largest: &mut u64,
 )
-    ensures { λ _. ⌜ SummaryHanded (summaryOf (entryOr (now (front .entry)) block) (now (values .entry))) (now (kind .exit)) (now (width .exit)) (now (length .exit)) (now (reference .exit)) (now (smallest .exit)) (now (largest .exit)) ⌝ }
+    ensures { λ _. ⌜
+        SummaryHanded (summaryOf (entryOr (now (front .entry)) block) (now (values .entry))) (now (kind .exit))
+        (now (width .exit)) (now (length .exit)) (now (reference .exit)) (now (smallest .exit))
+        (now (largest .exit))
+        ⌝ }
 {
     hand_summary(
         of_block(front, block, values),
@@ -141,7 +145,10 @@ fn hand_summary(
     smallest: &mut u64,
     largest: &mut u64,
 )
-    ensures { λ _. ⌜ SummaryHanded summary (now (kind .exit)) (now (width .exit)) (now (length .exit)) (now (reference .exit)) (now (smallest .exit)) (now (largest .exit)) ⌝ }
+    ensures { λ _. ⌜
+        SummaryHanded summary (now (kind .exit)) (now (width .exit)) (now (length .exit)) (now (reference .exit))
+        (now (smallest .exit)) (now (largest .exit))
+        ⌝ }
 {
     *kind = summary.kind;
     *width = summary.width;

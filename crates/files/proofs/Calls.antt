@@ -132,7 +132,8 @@ module _ (l : List ℕ) where
     pub row-refused : (a : FileAnswer) → fileAnswer (rowTests l p) ≡ a → (numberOf a ≡ 0 → ⊥) → rowOf l p ≡ Refused a
     row-refused a e n = row-is a e ∙ simp (ne-eqb (numberOf a) 0 n)
 
-    -- Where the lookup is done the contents are right and the row's block is there, so its entry is read, and is as laid out.
+    -- Where the lookup is done the contents are right and the row's block is there, so its entry is read, and is as
+    -- laid out.
     module _ (e : fileAnswer (rowTests l p) ≡ Done) where
       right : fileAnswer (contentsTests l (length l)) ≡ Done
       right = done-front (contentsTests l (length l)) _ refl (done-front (fileTests l) ((ltb p (rowCount l), Beyond) ∷ []) refl e .0) .0

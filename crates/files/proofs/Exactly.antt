@@ -1,5 +1,5 @@
--- A file gets an answer exactly when it has the reason for it: the refusals of Items 1, 9 and 11, each exactly when, in both directions, for the check, for one
--- block out and for the lookup of a row.
+-- A file gets an answer exactly when it has the reason for it: the refusals of Items 1, 9 and 11, each exactly when, in
+-- both directions, for the check, for one block out and for the lookup of a row.
 -- Assumes nothing.
 use mathlib.Core.Bool.{Bool, true, false}
 use mathlib.Core.List.{List, [], _∷_, _++_}
@@ -39,7 +39,8 @@ use Rattle.files.proofs.Ranges.{ranges-done, range-at}
 
 -- ---- a search by a test that says something
 
--- The test of each number says that something holds of it. So the search for the lowest that fails is for the lowest of which it does not hold.
+-- The test of each number says that something holds of it. So the search for the lowest that fails is for the lowest of
+-- which it does not hold.
 module _ (n : ℕ) (test : ℕ → Bool) (Holds : ℕ → Type 0) (plain : (i : ℕ) → (test i ≡ true) ↔ Holds i) where
   pub lowest-found : (p : ℕ) → p < n → (Holds p → ⊥) → ((i : ℕ) → i < p → Holds i) → firstBad n test ≡ p
   lowest-found p h bad before =

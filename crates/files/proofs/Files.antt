@@ -1,4 +1,5 @@
--- What holds of a file whose contents are right: each body is as long as its entry says, and the test of one body tells of its run indices alone.
+-- What holds of a file whose contents are right: each body is as long as its entry says, and the test of one body tells
+-- of its run indices alone.
 -- Assumes nothing.
 use mathlib.Core.Bool.{Bool, true, false}
 use mathlib.Core.List.{List, [], _∷_}

@@ -1,4 +1,5 @@
--- In a file whose contents are right, what is asked of the body that begins where body i does is asked of body i, and its block is block i.
+-- In a file whose contents are right, what is asked of the body that begins where body i does is asked of body i, and
+-- its block is block i.
 -- Assumes nothing.
 use mathlib.Core.Bool.{true}
 use mathlib.Core.List.{List, []}

@@ -1,6 +1,7 @@
--- The answer after all bodies of a file is the answer to the whole file, and the answer after those that are chosen is that of the tests of their blocks.
--- The tests ask the run indices of all blocks first and then the ranges of all, and the bodies come one after another: that is the same, since no file has
--- both a run index out of range and a range that is not the true one.
+-- The answer after all bodies of a file is the answer to the whole file, and the answer after those that are chosen is
+-- that of the tests of their blocks. The tests ask the run indices of all blocks first and then the ranges of all, and
+-- the bodies come one after another: that is the same, since no file has both a run index out of range and a range that
+-- is not the true one.
 -- Assumes nothing.
 use mathlib.Core.Bool.{Bool, true, false}
 use mathlib.Core.List.{List, [], _∷_}

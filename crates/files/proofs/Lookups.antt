@@ -1,5 +1,5 @@
--- The lookup of one value in a body of packed words: the words of the body by lane, as they are read from its bytes, and the row of a place without its
--- lane.
+-- The lookup of one value in a body of packed words: the words of the body by lane, as they are read from its bytes,
+-- and the row of a place without its lane.
 -- Assumes nothing.
 use mathlib.Core.List.{List}
 use mathlib.Core.Path.{_≡_, refl, sym, ap, _∙_}

@@ -1,4 +1,5 @@
--- The search for a bad block that leaves one block out: what it tells of the search that leaves none out, and of the answer to the file.
+-- The search for a bad block that leaves one block out: what it tells of the search that leaves none out, and of the
+-- answer to the file.
 -- Assumes nothing.
 use mathlib.Core.Bool.{Bool, true, false}
 use mathlib.Core.List.{List, [], _∷_}

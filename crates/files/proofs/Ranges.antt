@@ -1,5 +1,5 @@
--- The test of the ranges, behind those up to the run indices: a file of another edition than 2 passes it, and where all are passed every
--- block is good.
+-- The test of the ranges, behind those up to the run indices: a file of another edition than 2 passes it, and where all
+-- are passed every block is good.
 -- Assumes nothing.
 use mathlib.Core.Bool.{true}
 use mathlib.Core.List.{List, [], _∷_}
@@ -86,7 +86,8 @@ module _ (l : List ℕ) where
   unfolding blockIn
   file-block bytes done i h = a-block (entryOf l i) (bodyOf l i) (body-laid l (contents-right (file-runs done)) i h) (body-bytes bytes i)
 
-  -- and in edition 2 every value of it is between the smallest and the largest that its entry says, and both stand in the block.
+  -- and in edition 2 every value of it is between the smallest and the largest that its entry says, and both stand in
+  -- the block.
   pub file-spans : Elements 8 l → fileAnswer (fileTests l) ≡ Done → edition l ≡ 2 → (i : ℕ) → i < count l → Spans (rangeOf l i .smallest) (rangeOf l i .largest) (blockIn l i)
   unfolding hasTrueRange
   file-spans bytes done second i h =

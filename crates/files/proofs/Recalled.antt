@@ -1,5 +1,5 @@
--- Whoever keeps a checked file in memory recalls by the walk over its bodies: in a file whose check is done, i steps behind the first body is body i of the
--- file, and the block that is laid down from there is block i.
+-- Whoever keeps a checked file in memory recalls by the walk over its bodies: in a file whose check is done, i steps
+-- behind the first body is body i of the file, and the block that is laid down from there is block i.
 -- Assumes nothing.
 use mathlib.Core.List.{List}
 use mathlib.Core.Path.{_≡_, refl, ap, ap₂, _∙_}

@@ -1,5 +1,6 @@
--- The rows of a file (document 02, Item 1): an accepted file has exactly 1,024 rows for each block, row p is place p mod 1,024 of block p / 1,024,
--- and the lookup of a row gives what one block out leaves at that place. Then the two worked files of Item 1.
+-- The rows of a file (document 02, Item 1): an accepted file has exactly 1,024 rows for each block, row p is place p
+-- mod 1,024 of block p / 1,024, and the lookup of a row gives what one block out leaves at that place. Then the two
+-- worked files of Item 1.
 -- Assumes nothing.
 use mathlib.Core.Bool.{Bool, true, false}
 use mathlib.Core.List.{List, [], _∷_}
@@ -87,7 +88,8 @@ module _ (l : List ℕ) where
         looked ∙ ap (λ a. given-as (getD (left a (blockIn l (p / 1024)) output) (p % 1024) 0)) (sym out),
       )
 
--- What is read off the lookup of a row: the answer is that of its tests, and the value is the row where it is done, and else 0.
+-- What is read off the lookup of a row: the answer is that of its tests, and the value is the row where it is done, and
+-- else 0.
 module _ (e : Entry) (place v : ℕ) where
   given-done : answerOf (given e place v) ≡ Done
   given-done = go (ltb (e .kind) 2)
@@ -139,7 +141,8 @@ module _ (l : List ℕ) (p : ℕ) (done : fileAnswer (rowTests l p) ≡ Done) wh
       counted kind
       ∙ ap (Counted (rowAt l p)) (a-place t64 (e .width) (p % 1024) (laid-plain e (row-laid l p done) kind .0) (omega arith))
 
-  -- Value and count are those of single access at the row's place in the words of its body, and the reference is added to the value.
+  -- Value and count are those of single access at the row's place in the words of its body, and the reference is added
+  -- to the value.
   pub row-single : entryOf l (p / 1024) .kind < 2
       → (found : Single) → found ≡ singleOf Single.Value Single.Refused t64 (entryOf l (p / 1024) .width) words (p % 1024)
       → (single.answerOf found ≡ NoRefusal)

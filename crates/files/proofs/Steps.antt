@@ -1,6 +1,7 @@
--- The check of the whole file is what its steps give: the contents against the file's length, one body against its entry, and in edition 2 the
--- range of one block against its entry. A program that makes these steps itself, with no more of the file in hand than the contents and one body,
--- so gets the same answer. And a refused block out leaves its output as it was.
+-- The check of the whole file is what its steps give: the contents against the file's length, one body against its
+-- entry, and in edition 2 the range of one block against its entry. A program that makes these steps itself, with no
+-- more of the file in hand than the contents and one body, so gets the same answer. And a refused block out leaves its
+-- output as it was.
 -- Assumes nothing.
 use mathlib.Core.Bool.{Bool, true, false}
 use mathlib.Core.List.{List, [], _∷_}
@@ -25,8 +26,8 @@ use Rattle.files.proofs.Files.{body-tested, tested-done}
 abbrev pub badBody : List ℕ → ℕ
 badBody l = firstBad (count l) (λ i. isDone (fileAnswer (bodyTests (entryOf l i) (bodyOf l i))))
 
--- What the bodies give: 13 with the lowest that the second step refuses, where there is one, and else 15 with the lowest block whose range the
--- third finds to be another one.
+-- What the bodies give: 13 with the lowest that the second step refuses, where there is one, and else 15 with the
+-- lowest block whose range the third finds to be another one.
 abbrev byBodies : (bad other n : ℕ) → FileAnswer
 byBodies bad other n = unless (eqb bad n) (Runs bad) (unless (eqb other n) (Range other) Done)
 

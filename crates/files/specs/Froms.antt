@@ -1,6 +1,7 @@
--- What a call that goes over the bodies of a file, one after another, asks of one of them: entry i, and a body that begins at a place `at`. Any file
--- and any place will do. In a file whose contents are right, and with `at` where body i begins, these speak of body i and of block i: laws say so, of the
--- range in edition 2 and where the run indices are in range; in edition 1 the range that is not said is from 0 to the highest number of 64 bits.
+-- What a call that goes over the bodies of a file, one after another, asks of one of them: entry i, and a body that
+-- begins at a place `at`. Any file and any place will do. In a file whose contents are right, and with `at` where body
+-- i begins, these speak of body i and of block i: laws say so, of the range in edition 2 and where the run indices are
+-- in range; in edition 1 the range that is not said is from 0 to the highest number of 64 bits.
 -- Assumes nothing.
 use mathlib.Core.Bool.{Bool}
 use mathlib.Core.List.{List, []}
@@ -29,6 +30,7 @@ fromTests l i at output = Bodies.blockTests (entryOr l i) (bodyFrom l i at) outp
 unfoldable pub fromLeaves : (l : List ℕ) (i at : ℕ) (output : List ℕ) → List ℕ
 fromLeaves l i at output = Bodies.blockLeaves (entryOr l i) (bodyFrom l i at) output
 
--- This test says that the block has the range that its entry says. Where it cannot be laid down, 1,024 zeros stand for it.
+-- This test says that the block has the range that its entry says. Where it cannot be laid down, 1,024 zeros stand for
+-- it.
 unfoldable pub trueFrom : (l : List ℕ) (i at : ℕ) → Bool
 trueFrom l i at = isRange (rangeOr l i) (fromLeaves l i at (replicate 1024 0))

@@ -1,4 +1,5 @@
--- The tests of a file up to the run indices: in edition 1 there are no more. Private steps name these; no public contract does.
+-- The tests of a file up to the run indices: in edition 1 there are no more. Private steps name these; no public
+-- contract does.
 -- Assumes nothing.
 use mathlib.Core.List.{List, [], _∷_, _++_}
 use Prim.Native.Nat.{ℕ}

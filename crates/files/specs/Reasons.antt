@@ -1,5 +1,6 @@
--- When each number of Items 1, 9 and 11 is given to a file, said a second time: in plain arithmetic, without a test or a search, in the order of the
--- document. It guards the chain of tests in Files: that a file gets an answer exactly when it has the reason for it here is a theorem.
+-- When each number of Items 1, 9 and 11 is given to a file, said a second time: in plain arithmetic, without a test or
+-- a search, in the order of the document. It guards the chain of tests in Files: that a file gets an answer exactly
+-- when it has the reason for it here is a theorem.
 -- Assumes nothing.
 use mathlib.Core.List.{List}
 use mathlib.Core.Logic.{_⊎_, _≢_}
@@ -19,7 +20,8 @@ use Rattle.files.specs.Files.{bodyOf, blockIn, rowCount}
 abbrev pub GoodRuns : (e : Entry) (body : List ℕ) → Type 0
 GoodRuns e body = (e .kind ≡ 3) → (i : ℕ) → i < 1024 → little body (i * 2) 2 < (e .length - 2048) / 8
 
--- In edition 2 the smallest and the largest value that entry i says are those of its block. An edition 1 file says none.
+-- In edition 2 the smallest and the largest value that entry i says are those of its block. An edition 1 file says
+-- none.
 abbrev pub TrueRange : (l : List ℕ) (i : ℕ) → Type 0
 TrueRange l i = edition l ≡ 2 → (rangeOf l i .smallest ≡ lowestOf (blockIn l i)) × (rangeOf l i .largest ≡ highestOf (blockIn l i))
 
@@ -34,8 +36,9 @@ pub record Headed (l : List ℕ) : Type 0 where
   pub few : count l ≤ 256
   pub room : contentsSize (edition l) (count l) ≤ length l
 
--- Entry i is as laid out, its kind is one that the edition takes, and its smallest value is not above its largest. In edition 1 every kind is taken
--- and its range is from 0 to the highest number of 64 bits, so that the last two hold of themselves.
+-- Entry i is as laid out, its kind is one that the edition takes, and its smallest value is not above its largest. In
+-- edition 1 every kind is taken and its range is from 0 to the highest number of 64 bits, so that the last two hold of
+-- themselves.
 abbrev pub EntryRight : (l : List ℕ) (i : ℕ) → Type 0
 EntryRight l i = LaidOut (entryOf l i) × (TakenIn (edition l) (entryOf l i) × (rangeOf l i .smallest ≤ rangeOf l i .largest))
 

@@ -1,4 +1,5 @@
--- What the lookup of a file row gives: a value, with how many packed words its bits stand in (document 02, Item 5) or without, or a refusal.
+-- What the lookup of a file row gives: a value, with how many packed words its bits stand in (document 02, Item 5) or
+-- without, or a refusal.
 -- Assumes nothing.
 use mathlib.Core.List.{List}
 use Prim.Native.Nat.{ℕ, _/_, _%_}
@@ -27,8 +28,8 @@ valueOf (Counted v n) = v
 valueOf (Uncounted v) = v
 valueOf (Refused a) = 0
 
--- In a block of kind 0 or 1 the value v at a place is given with as many packed words as single access there would count. For kinds 2 and 3, where
--- a value is made of more than its own bits, there is no count.
+-- In a block of kind 0 or 1 the value v at a place is given with as many packed words as single access there would
+-- count. For kinds 2 and 3, where a value is made of more than its own bits, there is no count.
 abbrev pub given : (e : Entry) (place v : ℕ) → Row
 given e place v = pick (ltb (e .kind) 2) (Counted v (countAt t64 (e .width) place)) (Uncounted v)
 

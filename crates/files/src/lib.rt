@@ -1,10 +1,11 @@
-// The column file (document 02, Items 1 and 9): a check of the whole file, one block out, and the value at a file row. A file is
-// lent as bytes. check, block_out and row_at check the whole file before they answer for a block or a row, by the steps that stand in crates of
-// their own: the contents against the file's length, each body against its entry, and in edition 2 the smallest and the largest
-// value of each block against what its entry says. Of an edition 1 file none of them reads a body twice; of an edition 2 file each
-// lays every block down once for its smallest and largest value, and one block out, as the lookup of a row of kind 2, lays its block down once
-// more. A row of kind 0 or 1 is looked up in its body. The four calls
-// whose names end in from are for a walk over the bodies, behind a check: they look at one body, and check nothing else.
+// The column file (document 02, Items 1 and 9): a check of the whole file, one block out, and the value at a file row.
+// A file is lent as bytes. check, block_out and row_at check the whole file before they answer for a block or a row, by
+// the steps that stand in crates of their own: the contents against the file's length, each body against its entry, and
+// in edition 2 the smallest and the largest value of each block against what its entry says. Of an edition 1 file none
+// of them reads a body twice; of an edition 2 file each lays every block down once for its smallest and largest value,
+// and one block out, as the lookup of a row of kind 2, lays its block down once more. A row of kind 0 or 1 is looked up
+// in its body. The four calls whose names end in from are for a walk over the bodies, behind a check: they look at one
+// body, and check nothing else.
 mod lookup;
 
 use access::Words;
@@ -49,7 +50,12 @@ pub fn check(file: &[u8]) -> FileAnswer
 // Checks the ranges of a file that is right up to its run indices.
 fn check_ranges(file: &[u8]) -> FileAnswer
     requires { ⌜ fileAnswer (runsTests (now file)) ≡ Done ⌝ }
-    ensures { λ r. ⌜ r ≡ fileAnswer ((eqb (badRange (now (file .entry))) (countIn (now (file .entry))), Range (badRange (now (file .entry)))) ∷ []) ⌝ }
+    ensures { λ r. ⌜
+        r
+        ≡ fileAnswer
+        ((eqb (badRange (now (file .entry))) (countIn (now (file .entry))), Range (badRange (now (file .entry)))) ∷
+        [])
+        ⌝ }
 {
     if edition(file) != 2 {
         return FileAnswer::Done;
@@ -62,8 +68,8 @@ fn check_ranges(file: &[u8]) -> FileAnswer
     FileAnswer::Range(bad)
 }
 
-// The lowest block whose range is not the true one, and the count where there is none, in an edition 2 file that is right up to
-// its run indices.
+// The lowest block whose range is not the true one, and the count where there is none, in an edition 2 file that is
+// right up to its run indices.
 fn false_range(file: &[u8]) -> usize
     requires { ⌜ fileAnswer (runsTests (now file)) ≡ Done ⌝ }
     requires { ⌜ editionIn (now file) ≡ 2 ⌝ }
@@ -88,12 +94,19 @@ fn check_runs(file: &[u8]) -> FileAnswer
     check_but(file, count(file))
 }
 
-// The same but for the run indices of block b, which are looked at where that block is laid down. A refusal is that of all these
-// tests: where a later block is bad nothing is laid down, so block b is looked at here, and the lower one is reported.
+// The same but for the run indices of block b, which are looked at where that block is laid down. A refusal is that of
+// all these tests: where a later block is bad nothing is laid down, so block b is looked at here, and the lower one is
+// reported.
 fn check_but(file: &[u8], b: usize) -> FileAnswer
     ensures { λ r. ⌜ ((numberOf r ≡ 0 → ⊥) → r ≡ fileAnswer (runsTests (now (file .entry)))) ⌝ }
-    ensures { λ r. ⌜ (numberOf r ≡ 0 → fileAnswer (contentsTests (now (file .entry)) (length (now (file .entry)))) ≡ Done) ⌝ }
-    ensures { λ r. ⌜ (numberOf r ≡ 0 → firstBad (countIn (now (file .entry))) (λ i. either (eqb i b) (hasGoodRuns (entryOf (now (file .entry)) i) (bodyOf (now (file .entry)) i))) ≡ countIn (now (file .entry))) ⌝ }
+    ensures { λ r. ⌜
+        (numberOf r ≡ 0 → fileAnswer (contentsTests (now (file .entry)) (length (now (file .entry)))) ≡ Done)
+        ⌝ }
+    ensures { λ r. ⌜
+        (numberOf r ≡ 0 → firstBad (countIn (now (file .entry)))
+        (λ i. either (eqb i b) (hasGoodRuns (entryOf (now (file .entry)) i) (bodyOf (now (file .entry)) i))) ≡
+        countIn (now (file .entry)))
+        ⌝ }
 {
     let answer = contents::check(file, file.len());
     if answer.number() != 0 {
@@ -112,11 +125,15 @@ fn check_but(file: &[u8], b: usize) -> FileAnswer
     FileAnswer::Runs(bad)
 }
 
-// The lowest block other than b that has a run index out of range, and the count where there is none, in a file whose contents
-// are right. The body of block b is not read.
+// The lowest block other than b that has a run index out of range, and the count where there is none, in a file whose
+// contents are right. The body of block b is not read.
 fn first_bad_but(file: &[u8], b: usize) -> usize
     requires { ⌜ ContentsTaken (now file) ⌝ }
-    ensures { λ r. ⌜ r ≡ firstBad (countIn (now (file .entry))) (λ i. either (eqb i b) (hasGoodRuns (entryOf (now (file .entry)) i) (bodyOf (now (file .entry)) i))) ⌝ }
+    ensures { λ r. ⌜
+        r
+        ≡ firstBad (countIn (now (file .entry)))
+        (λ i. either (eqb i b) (hasGoodRuns (entryOf (now (file .entry)) i) (bodyOf (now (file .entry)) i)))
+        ⌝ }
 {
     let n = count(file);
     let mut body = bodywise::first(file);
@@ -148,14 +165,16 @@ pub fn body_from(file: &[u8], i: usize, at: usize) -> &[u8]
     &file[at..end]
 }
 
-// Whether the body that begins at `at` is as entry i says. Where the contents of the file are right, only its run indices can be wrong.
+// Whether the body that begins at `at` is as entry i says. Where the contents of the file are right, only its run
+// indices can be wrong.
 pub fn is_good_from(file: &[u8], i: usize, at: usize) -> bool
     ensures { λ r. ⌜ r ≡ goodFrom (now (file .entry)) i at ⌝ }
 {
     bodies::check(entry_or(file, i), body_from(file, i, at)).number() == 0
 }
 
-// Lays down the block of entry i and of the body that begins at `at`. There is one body here, so the place of 10 and of 13 is 0.
+// Lays down the block of entry i and of the body that begins at `at`. There is one body here, so the place of 10 and of
+// 13 is 0.
 pub fn block_from(file: &[u8], i: usize, at: usize, output: &mut [u64]) -> FileAnswer
     ensures { λ r. ⌜ r ≡ fileAnswer (fromTests (now (file .entry)) i at (now (output .entry))) ⌝ }
     ensures { λ _. ⌜ now (output .exit) ≡ fromLeaves (now (file .entry)) i at (now (output .entry)) ⌝ }
@@ -204,12 +223,18 @@ pub fn block_out(file: &[u8], b: usize, output: &mut [u64]) -> FileAnswer
     lay_numbered(file, b, output)
 }
 
-// Checks the file for one block out of it. The ranges are looked at behind all the run indices; where a file has no ranges the run indices of
-// block b can wait until that block is laid down.
+// Checks the file for one block out of it. The ranges are looked at behind all the run indices; where a file has no
+// ranges the run indices of block b can wait until that block is laid down.
 fn check_for(file: &[u8], b: usize) -> FileAnswer
     ensures { λ r. ⌜ ((numberOf r ≡ 0 → ⊥) → r ≡ fileAnswer (fileTests (now (file .entry)))) ⌝ }
-    ensures { λ r. ⌜ (numberOf r ≡ 0 → fileAnswer (contentsTests (now (file .entry)) (length (now (file .entry)))) ≡ Done) ⌝ }
-    ensures { λ r. ⌜ (numberOf r ≡ 0 → firstBad (countIn (now (file .entry))) (λ i. either (eqb i b) (hasGoodRuns (entryOf (now (file .entry)) i) (bodyOf (now (file .entry)) i))) ≡ countIn (now (file .entry))) ⌝ }
+    ensures { λ r. ⌜
+        (numberOf r ≡ 0 → fileAnswer (contentsTests (now (file .entry)) (length (now (file .entry)))) ≡ Done)
+        ⌝ }
+    ensures { λ r. ⌜
+        (numberOf r ≡ 0 → firstBad (countIn (now (file .entry)))
+        (λ i. either (eqb i b) (hasGoodRuns (entryOf (now (file .entry)) i) (bodyOf (now (file .entry)) i))) ≡
+        countIn (now (file .entry)))
+        ⌝ }
     ensures { λ r. ⌜ (numberOf r ≡ 0 → badRange (now (file .entry)) ≡ countIn (now (file .entry))) ⌝ }
 {
     if edition(file) != 2 {
@@ -218,13 +243,21 @@ fn check_for(file: &[u8], b: usize) -> FileAnswer
     check(file)
 }
 
-// Lays block b down, in a file whose contents are right. Where a run index is out of range, block_of finds it and writes nothing.
+// Lays block b down, in a file whose contents are right. Where a run index is out of range, block_of finds it and
+// writes nothing.
 fn lay_numbered(file: &[u8], b: usize, output: &mut [u64]) -> FileAnswer
     requires { ⌜ ContentsTaken (now file) ⌝ }
     requires { ⌜ b < countIn (now file) ⌝ }
     requires { ⌜ length (now output) ≡ 1024 ⌝ }
-    ensures { λ r. ⌜ r ≡ pick (hasGoodRuns (entryOf (now (file .entry)) b) (bodyOf (now (file .entry)) b)) Done (Runs b) ⌝ }
-    ensures { λ _. ⌜ now (output .exit) ≡ pick (hasGoodRuns (entryOf (now (file .entry)) b) (bodyOf (now (file .entry)) b)) (blockIn (now (file .entry)) b) (now (output .entry)) ⌝ }
+    ensures { λ r. ⌜
+        r
+        ≡ pick (hasGoodRuns (entryOf (now (file .entry)) b) (bodyOf (now (file .entry)) b)) Done (Runs b)
+        ⌝ }
+    ensures { λ _. ⌜
+        now (output .exit)
+        ≡ pick (hasGoodRuns (entryOf (now (file .entry)) b) (bodyOf (now (file .entry)) b))
+        (blockIn (now (file .entry)) b) (now (output .entry))
+        ⌝ }
 {
     let at = body_start(file, b);
     let answer = block_from(file, b, at, output);
@@ -234,8 +267,8 @@ fn lay_numbered(file: &[u8], b: usize, output: &mut [u64]) -> FileAnswer
     FileAnswer::Done
 }
 
-// The value at a file row, with how many packed words its bits stand in where its block is of kind 0 or 1, and without where it is of kind 2
-// or 3; or the refusal.
+// The value at a file row, with how many packed words its bits stand in where its block is of kind 0 or 1, and without
+// where it is of kind 2 or 3; or the refusal.
 pub enum Row {
     Counted(u64, Words),
     Uncounted(u64),
@@ -285,14 +318,18 @@ pub fn row_at(file: &[u8], p: usize) -> Row
     laid_row(file, b, p % 1024)
 }
 
-// The value at a place of block b, which is packed or a frame: what the lookup in its body gives, and the reference is added. A packed
-// block has the reference 0.
+// The value at a place of block b, which is packed or a frame: what the lookup in its body gives, and the reference is
+// added. A packed block has the reference 0.
 fn packed_row(file: &[u8], b: usize, place: usize) -> Row
     requires { ⌜ ContentsTaken (now file) ⌝ }
     requires { ⌜ b < countIn (now file) ⌝ }
     requires { ⌜ entryOf (now file) b .kind < 2 ⌝ }
     requires { ⌜ place < 1024 ⌝ }
-    ensures { λ r. ⌜ r ≡ Counted (getD (blockIn (now (file .entry)) b) place 0) (countAt t64 (entryOf (now (file .entry)) b .width) place) ⌝ }
+    ensures { λ r. ⌜
+        r
+        ≡ Counted (getD (blockIn (now (file .entry)) b) place 0)
+        (countAt t64 (entryOf (now (file .entry)) b .width) place)
+        ⌝ }
 {
     let e = entry_or(file, b);
     let at = body_start(file, b);
@@ -305,7 +342,11 @@ fn laid_row(file: &[u8], b: usize, place: usize) -> Row
     requires { ⌜ ContentsTaken (now file) ⌝ }
     requires { ⌜ b < countIn (now file) ⌝ }
     requires { ⌜ place < 1024 ⌝ }
-    ensures { λ r. ⌜ r ≡ pick (hasGoodRuns (entryOf (now (file .entry)) b) (bodyOf (now (file .entry)) b)) (Uncounted (getD (blockIn (now (file .entry)) b) place 0)) (Refused (Runs b)) ⌝ }
+    ensures { λ r. ⌜
+        r
+        ≡ pick (hasGoodRuns (entryOf (now (file .entry)) b) (bodyOf (now (file .entry)) b))
+        (Uncounted (getD (blockIn (now (file .entry)) b) place 0)) (Refused (Runs b))
+        ⌝ }
 {
     let mut block = [0u64; 1024];
     let answer = lay_numbered(file, b, &mut block);

@@ -1,8 +1,10 @@
-// One value out of a body of packed words, read where its bits stand: lane and row of the place are worked out, and then the one word or
-// the two words that hold the value are read from the bytes. So the words that are counted are the words that are read.
+// One value out of a body of packed words, read where its bits stand: lane and row of the place are worked out, and
+// then the one word or the two words that hold the value are read from the bytes. So the words that are counted are the
+// words that are read.
 //
-// This is not single access, which looks lane and row up in its tables: it reads bytes of a file, whose values have 64 bits. That both give
-// the same value and the same count is a law. The module is private: its functions are public to the module above alone.
+// This is not single access, which looks lane and row up in its tables: it reads bytes of a file, whose values have 64
+// bits. That both give the same value and the same count is a law. The module is private: its functions are public to
+// the module above alone.
 use access::Words;
 use little::word;
 use places::order;

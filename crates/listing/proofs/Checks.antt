@@ -1,5 +1,5 @@
--- The check of one file: a run that begins with its first four bytes writes the refusal of the file, or goes on behind it. Left and right are one law,
--- and what comes behind is a premise of it.
+-- The check of one file: a run that begins with its first four bytes writes the refusal of the file, or goes on behind
+-- it. Left and right are one law, and what comes behind is a premise of it.
 -- Assumes nothing.
 use mathlib.Core.Bool.{Bool, true, false}
 use mathlib.Core.List.{List, [], _++_, append-nil}

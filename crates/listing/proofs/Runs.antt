@@ -1,5 +1,5 @@
--- The theorem: a run of the machine on two files, whatever they are, ends, and writes the text of Item 12. And no wish of the machine, in any state, is for more
--- than its buffer has room for.
+-- The theorem: a run of the machine on two files, whatever they are, ends, and writes the text of Item 12. And no wish
+-- of the machine, in any state, is for more than its buffer has room for.
 -- Assumes nothing.
 use mathlib.Core.Bool.{Bool, true, false}
 use mathlib.Core.List.{List, [], _∷_, _++_, append-nil, append-assoc}
@@ -262,8 +262,8 @@ module _ (l m : List ℕ) (left-taken : answerTo l ≡ Accepted) (right-taken : 
 
 -- ---- the theorem
 
--- A run on two files, whatever they are and whatever stands in the buffers at first, of as many turns as are said for them or of more, ends and writes what is to
--- be printed of them, where the output has room for the lines of a block.
+-- A run on two files, whatever they are and whatever stands in the buffers at first, of as many turns as are said for
+-- them or of more, ends and writes what is to be printed of them, where the output has room for the lines of a block.
 pub prints : (l m : List ℕ) (h : Held) (out : List ℕ) (k : ℕ) → length l < 18446744073709551616 → length m < 18446744073709551616 → 65536 ≤ length out
     → turnsOf l m ≤ k → runsBy nextOf l m k (given (startOf (length l) (length m)) out) h ≡ printed (listingOf l m)
 unfolding listingOf turnsOf

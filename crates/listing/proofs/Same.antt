@@ -1,5 +1,5 @@
--- What the loop over two bodies keeps, that two entries with the same fields are one, and what is listed of a block that is the same in both files:
--- nothing.
+-- What the loop over two bodies keeps, that two entries with the same fields are one, and what is listed of a block
+-- that is the same in both files: nothing.
 -- Assumes nothing.
 use mathlib.Core.Bool.{Bool, true}
 use mathlib.Core.List.{List, [], _∷_}

@@ -1,4 +1,5 @@
--- The next turn of the machine by what was wished for last, where the output has room; and what a text that is laid there leaves.
+-- The next turn of the machine by what was wished for last, where the output has room; and what a text that is laid
+-- there leaves.
 -- Assumes nothing.
 use mathlib.Core.Bool.{Bool, true, false}
 use mathlib.Core.List.{List, []}

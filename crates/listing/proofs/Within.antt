@@ -31,7 +31,8 @@ use Rattle.listing.specs.Machine.{given, doneTurn, lastText, refusal, bl
 use Rattle.listing.proofs.Stages.{over-text}
 use Rattle.listing.proofs.Checks.{front-most}
 
--- A wish of the machine, in any state and with anything in the buffers, is for no more than its buffer or the output has.
+-- A wish of the machine, in any state and with anything in the buffers, is for no more than its buffer or the output
+-- has.
 refusal-within : (s : State) (side : Side) (a : FileAnswer) (out : List ℕ) → isWithin (refusal s side a out .wish) (refusal s side a out .out) ≡ true
 unfolding refusal
 refusal-within s side a out = le-leb (length (refusalLine side a)) (length (over 0 (refusalLine side a) out)) (over-text (refusalLine side a) out)

@@ -1,5 +1,6 @@
--- The machine that lists what two files differ in: what it wishes for at each turn, and what it lays into the output, a definition for each step of the code.
--- `left` and `right` with `Front` or `Body` are what the buffers hold. That its runs print what Text says is the theorem.
+-- The machine that lists what two files differ in: what it wishes for at each turn, and what it lays into the output, a
+-- definition for each step of the code. `left` and `right` with `Front` or `Body` are what the buffers hold. That its
+-- runs print what Text says is the theorem.
 -- Assumes nothing.
 use mathlib.Core.Bool.{true, false}
 use mathlib.Core.List.{List, []}
@@ -164,7 +165,8 @@ askAgain s side at front = turnTo s (Again side) (bodyWish side (bodyAt front (s
 abbrev pub blocksInBoth : (leftFront rightFront : List ℕ) → ℕ
 blocksInBoth leftFront rightFront = min (countOr leftFront) (countOr rightFront)
 
--- The lines of the blocks so far are written: the next block is read, and behind the last one that both files have come the last lines.
+-- The lines of the blocks so far are written: the next block is read, and behind the last one that both files have come
+-- the last lines.
 unfoldable pub goOn : (s : State) (leftFront rightFront out : List ℕ) → Given State
 goOn s leftFront rightFront out =
     pick (ltb (s .number) (blocksInBoth leftFront rightFront)) (given (askAgain s Left (s .left .at) leftFront) out)
@@ -177,8 +179,8 @@ past s leftFront rightFront =
     let right = nextBody rightFront (bodyAt rightFront (s .number) (s .right .at)) in
     atBodies s (left .number) (left .at) (right .at)
 
--- The rows of the block that differ are listed: their lines are to be written, and the list is behind the block. A count that is no number of 64 bits
--- counts as the largest that is one.
+-- The rows of the block that differ are listed: their lines are to be written, and the list is behind the block. A
+-- count that is no number of 64 bits counts as the largest that is one.
 unfoldable pub listed : (s : State) (leftFront rightFront left right out : List ℕ) → Given State
 listed s leftFront rightFront left right out =
     let text = linesOf (changesIn (s .number) left right) in
@@ -188,7 +190,8 @@ listed s leftFront rightFront left right out =
 abbrev pub stillTaken : (answer : FileAnswer) (s : State) (side : Side) (out : List ℕ) (rest : Given State) → Given State
 stillTaken answer s side out rest = pick (isDone answer) rest (refusal s side answer out)
 
--- Both blocks, which are laid down, are compared. Their ranges are tested again where a row is listed and where the files do not say the same one.
+-- Both blocks, which are laid down, are compared. Their ranges are tested again where a row is listed and where the
+-- files do not say the same one.
 unfoldable pub compared : (s : State) (leftFront rightFront left right out : List ℕ) → Given State
 compared s leftFront rightFront left right out =
     pick (both (eqb (length (differing left right)) 0) (sameRange leftFront rightFront (s .number)))

@@ -1,11 +1,13 @@
-// What the program `changes` does, decided without a read or a write (document 02, Item 12): a machine that says at each turn what is
-// wished for next, a part of one file or that bytes of the output are written, and is shown what was read by buffers that
-// are lent. It goes through both files twice: once to check them, left before right, and once to compare them, block by block.
+// What the program `changes` does, decided without a read or a write (document 02, Item 12): a machine that says at
+// each turn what is wished for next, a part of one file or that bytes of the output are written, and is shown what was
+// read by buffers that are lent. It goes through both files twice: once to check them, left before right, and once to
+// compare them, block by block.
 //
-// A lent buffer is just what the last read into it gave: where the file has fewer bytes than were wished for, it is shorter.
+// A lent buffer is just what the last read into it gave: where the file has fewer bytes than were wished for, it is
+// shorter.
 //
-// A file that changes between the walks: a body is tested again when it is read again, and no row is listed from one that is
-// refused then. The refusal of its file is the last line.
+// A file that changes between the walks: a body is tested again when it is read again, and no row is listed from one
+// that is refused then. The refusal of its file is the last line.
 mod text;
 
 use bodywise::Body;
@@ -111,8 +113,8 @@ pub fn turns() -> usize
     1300
 }
 
-// The turn behind this one. The buffers hold what the last reads into them gave. An output that is shorter than 65,536 bytes ends
-// it at once.
+// The turn behind this one. The buffers hold what the last reads into them gave. An output that is shorter than 65,536
+// bytes ends it at once.
 pub fn next(
     state: State,
     left_front: &[u8],
@@ -121,8 +123,16 @@ pub fn next(
     right_body: &[u8],
     out: &mut [u8],
 ) -> Turn
-    ensures { λ r. ⌜ r ≡ turnOf (nextOf state (held (now («left_front» .entry)) (now («right_front» .entry)) (now («left_body» .entry)) (now («right_body» .entry))) (now (out .entry))) ⌝ }
-    ensures { λ _. ⌜ now (out .exit) ≡ nextOf state (held (now («left_front» .entry)) (now («right_front» .entry)) (now («left_body» .entry)) (now («right_body» .entry))) (now (out .entry)) .out ⌝ }
+    ensures { λ r. ⌜
+        r
+        ≡ turnOf (nextOf state (held (now («left_front» .entry)) (now («right_front» .entry)) (now («left_body» .entry))
+        (now («right_body» .entry))) (now (out .entry)))
+        ⌝ }
+    ensures { λ _. ⌜
+        now (out .exit)
+        ≡ nextOf state (held (now («left_front» .entry)) (now («right_front» .entry)) (now («left_body» .entry))
+        (now («right_body» .entry))) (now (out .entry)) .out
+        ⌝ }
 {
     if out.len() < 65536 {
         return Turn {
@@ -232,8 +242,14 @@ fn after_front(
     out: &mut [u8],
 ) -> Turn
     requires { ⌜ 65536 ≤ length (now out) ⌝ }
-    ensures { λ r. ⌜ r ≡ turnOf (afterFront state side (now («left_front» .entry)) (now («right_front» .entry)) (now (out .entry))) ⌝ }
-    ensures { λ _. ⌜ now (out .exit) ≡ afterFront state side (now («left_front» .entry)) (now («right_front» .entry)) (now (out .entry)) .out ⌝ }
+    ensures { λ r. ⌜
+        r
+        ≡ turnOf (afterFront state side (now («left_front» .entry)) (now («right_front» .entry)) (now (out .entry)))
+        ⌝ }
+    ensures { λ _. ⌜
+        now (out .exit)
+        ≡ afterFront state side (now («left_front» .entry)) (now («right_front» .entry)) (now (out .entry)) .out
+        ⌝ }
 {
     match side {
         Side::Left => check_front(state, Side::Left, state.left.size, left_front, out),
@@ -264,8 +280,16 @@ fn after_body(
     out: &mut [u8],
 ) -> Turn
     requires { ⌜ 65536 ≤ length (now out) ⌝ }
-    ensures { λ r. ⌜ r ≡ turnOf (afterBody state side (now («left_front» .entry)) (now («right_front» .entry)) (now («left_body» .entry)) (now («right_body» .entry)) (now (out .entry))) ⌝ }
-    ensures { λ _. ⌜ now (out .exit) ≡ afterBody state side (now («left_front» .entry)) (now («right_front» .entry)) (now («left_body» .entry)) (now («right_body» .entry)) (now (out .entry)) .out ⌝ }
+    ensures { λ r. ⌜
+        r
+        ≡ turnOf (afterBody state side (now («left_front» .entry)) (now («right_front» .entry))
+        (now («left_body» .entry)) (now («right_body» .entry)) (now (out .entry)))
+        ⌝ }
+    ensures { λ _. ⌜
+        now (out .exit)
+        ≡ afterBody state side (now («left_front» .entry)) (now («right_front» .entry)) (now («left_body» .entry))
+        (now («right_body» .entry)) (now (out .entry)) .out
+        ⌝ }
 {
     match side {
         Side::Left => check_body(state, Side::Left, state.left.at, left_front, left_body, out),
@@ -289,8 +313,14 @@ fn check_body(
     out: &mut [u8],
 ) -> Turn
     requires { ⌜ 65536 ≤ length (now out) ⌝ }
-    ensures { λ r. ⌜ r ≡ turnOf (checkBody state side at (now (front .entry)) (now (body .entry)) (now (out .entry))) ⌝ }
-    ensures { λ _. ⌜ now (out .exit) ≡ checkBody state side at (now (front .entry)) (now (body .entry)) (now (out .entry)) .out ⌝ }
+    ensures { λ r. ⌜
+        r
+        ≡ turnOf (checkBody state side at (now (front .entry)) (now (body .entry)) (now (out .entry)))
+        ⌝ }
+    ensures { λ _. ⌜
+        now (out .exit)
+        ≡ checkBody state side at (now (front .entry)) (now (body .entry)) (now (out .entry)) .out
+        ⌝ }
 {
     let answer = step(FileAnswer::Done, front, state.number, body);
     if answer.number() != 0 {
@@ -398,11 +428,18 @@ fn begin(state: State, left_front: &[u8], right_front: &[u8]) -> Turn
     between(at_bodies(state, 0, left.at, right.at), 0, 0)
 }
 
-// The lines of the blocks so far are written: the next block is read, and behind the last one that both files have come the last lines.
+// The lines of the blocks so far are written: the next block is read, and behind the last one that both files have come
+// the last lines.
 fn go_on(state: State, left_front: &[u8], right_front: &[u8], out: &mut [u8]) -> Turn
     requires { ⌜ 65536 ≤ length (now out) ⌝ }
-    ensures { λ r. ⌜ r ≡ turnOf (goOn state (now («left_front» .entry)) (now («right_front» .entry)) (now (out .entry))) ⌝ }
-    ensures { λ _. ⌜ now (out .exit) ≡ goOn state (now («left_front» .entry)) (now («right_front» .entry)) (now (out .entry)) .out ⌝ }
+    ensures { λ r. ⌜
+        r
+        ≡ turnOf (goOn state (now («left_front» .entry)) (now («right_front» .entry)) (now (out .entry)))
+        ⌝ }
+    ensures { λ _. ⌜
+        now (out .exit)
+        ≡ goOn state (now («left_front» .entry)) (now («right_front» .entry)) (now (out .entry)) .out
+        ⌝ }
 {
     if state.number < blocks_in_both(left_front, right_front) as usize {
         return ask_again(state, Side::Left, state.left.at, left_front);
@@ -435,8 +472,16 @@ fn again(
     out: &mut [u8],
 ) -> Turn
     requires { ⌜ 65536 ≤ length (now out) ⌝ }
-    ensures { λ r. ⌜ r ≡ turnOf (afterAgain state side (now («left_front» .entry)) (now («right_front» .entry)) (now («left_body» .entry)) (now («right_body» .entry)) (now (out .entry))) ⌝ }
-    ensures { λ _. ⌜ now (out .exit) ≡ afterAgain state side (now («left_front» .entry)) (now («right_front» .entry)) (now («left_body» .entry)) (now («right_body» .entry)) (now (out .entry)) .out ⌝ }
+    ensures { λ r. ⌜
+        r
+        ≡ turnOf (afterAgain state side (now («left_front» .entry)) (now («right_front» .entry))
+        (now («left_body» .entry)) (now («right_body» .entry)) (now (out .entry)))
+        ⌝ }
+    ensures { λ _. ⌜
+        now (out .exit)
+        ≡ afterAgain state side (now («left_front» .entry)) (now («right_front» .entry)) (now («left_body» .entry))
+        (now («right_body» .entry)) (now (out .entry)) .out
+        ⌝ }
 {
     match side {
         Side::Left => ask_again(state, Side::Right, state.right.at, right_front),
@@ -454,8 +499,16 @@ fn both_there(
     out: &mut [u8],
 ) -> Turn
     requires { ⌜ 65536 ≤ length (now out) ⌝ }
-    ensures { λ r. ⌜ r ≡ turnOf (bothThere state (now («left_front» .entry)) (now («right_front» .entry)) (now («left_body» .entry)) (now («right_body» .entry)) (now (out .entry))) ⌝ }
-    ensures { λ _. ⌜ now (out .exit) ≡ bothThere state (now («left_front» .entry)) (now («right_front» .entry)) (now («left_body» .entry)) (now («right_body» .entry)) (now (out .entry)) .out ⌝ }
+    ensures { λ r. ⌜
+        r
+        ≡ turnOf (bothThere state (now («left_front» .entry)) (now («right_front» .entry)) (now («left_body» .entry))
+        (now («right_body» .entry)) (now (out .entry)))
+        ⌝ }
+    ensures { λ _. ⌜
+        now (out .exit)
+        ≡ bothThere state (now («left_front» .entry)) (now («right_front» .entry)) (now («left_body» .entry))
+        (now («right_body» .entry)) (now (out .entry)) .out
+        ⌝ }
 {
     let n = blocks_in_both(left_front, right_front) as usize;
     if n <= state.number {
@@ -480,8 +533,8 @@ fn both_there(
     )
 }
 
-// Lays both blocks down. A file that has changed since it was checked is refused. Where both files have the same body, the right block
-// is the left one, and no row differs.
+// Lays both blocks down. A file that has changed since it was checked is refused. Where both files have the same body,
+// the right block is the left one, and no row differs.
 fn lay_both(
     state: State,
     left_front: &[u8],
@@ -498,8 +551,16 @@ fn lay_both(
     requires { ⌜ length (now right) ≡ 1024 ⌝ }
     requires { ⌜ length (now places) ≡ 1024 ⌝ }
     requires { ⌜ state .number < 65536 ⌝ }
-    ensures { λ r. ⌜ r ≡ turnOf (bothLaid state (now («left_front» .entry)) (now («right_front» .entry)) (now («left_body» .entry)) (now («right_body» .entry)) (now (out .entry))) ⌝ }
-    ensures { λ _. ⌜ now (out .exit) ≡ bothLaid state (now («left_front» .entry)) (now («right_front» .entry)) (now («left_body» .entry)) (now («right_body» .entry)) (now (out .entry)) .out ⌝ }
+    ensures { λ r. ⌜
+        r
+        ≡ turnOf (bothLaid state (now («left_front» .entry)) (now («right_front» .entry)) (now («left_body» .entry))
+        (now («right_body» .entry)) (now (out .entry)))
+        ⌝ }
+    ensures { λ _. ⌜
+        now (out .exit)
+        ≡ bothLaid state (now («left_front» .entry)) (now («right_front» .entry)) (now («left_body» .entry))
+        (now («right_body» .entry)) (now (out .entry)) .out
+        ⌝ }
 {
     let answer = held_block(left_front, state.number, left_body, left);
     if answer.number() != 0 {
@@ -523,7 +584,10 @@ fn same_body(
     left_body: &[u8],
     right_body: &[u8],
 ) -> bool
-    ensures { λ r. ⌜ (r ≡ true → SameBody i (now («left_front» .entry)) (now («right_front» .entry)) (now («left_body» .entry)) (now («right_body» .entry))) ⌝ }
+    ensures { λ r. ⌜
+        (r ≡ true → SameBody i (now («left_front» .entry)) (now («right_front» .entry)) (now («left_body» .entry))
+        (now («right_body» .entry)))
+        ⌝ }
 {
     if !has_right_entry(left_front, i) {
         return false;
@@ -549,7 +613,8 @@ fn same_entry(a: Entry, b: Entry) -> bool
             & ((a.zero == b.zero) & ((a.length == b.length) & (a.reference == b.reference))))
 }
 
-// Whether two buffers hold the same bytes. What is apart at each place is joined by `|`, so that there is no branch for a place.
+// Whether two buffers hold the same bytes. What is apart at each place is joined by `|`, so that there is no branch for
+// a place.
 fn same_bytes(a: &[u8], b: &[u8]) -> bool
     ensures { λ r. ⌜ (r ≡ true → now (a .entry) ≡ now (b .entry)) ⌝ }
 {
@@ -565,8 +630,9 @@ fn same_bytes(a: &[u8], b: &[u8]) -> bool
     any == 0
 }
 
-// Compares both blocks, which are laid down. Their ranges are looked at again where a row is listed, and where the files do not
-// say the same one: equal blocks with equal ranges are both right or both wrong, so that a change of one file does not hide there.
+// Compares both blocks, which are laid down. Their ranges are looked at again where a row is listed, and where the
+// files do not say the same one: equal blocks with equal ranges are both right or both wrong, so that a change of one
+// file does not hide there.
 fn compare_laid(
     state: State,
     left_front: &[u8],
@@ -581,8 +647,16 @@ fn compare_laid(
     requires { ⌜ length (now right) ≡ 1024 ⌝ }
     requires { ⌜ length (now places) ≡ 1024 ⌝ }
     requires { ⌜ state .number < 65536 ⌝ }
-    ensures { λ r. ⌜ r ≡ turnOf (compared state (now («left_front» .entry)) (now («right_front» .entry)) (now (left .entry)) (now (right .entry)) (now (out .entry))) ⌝ }
-    ensures { λ _. ⌜ now (out .exit) ≡ compared state (now («left_front» .entry)) (now («right_front» .entry)) (now (left .entry)) (now (right .entry)) (now (out .entry)) .out ⌝ }
+    ensures { λ r. ⌜
+        r
+        ≡ turnOf (compared state (now («left_front» .entry)) (now («right_front» .entry)) (now (left .entry))
+        (now (right .entry)) (now (out .entry)))
+        ⌝ }
+    ensures { λ _. ⌜
+        now (out .exit)
+        ≡ compared state (now («left_front» .entry)) (now («right_front» .entry)) (now (left .entry))
+        (now (right .entry)) (now (out .entry)) .out
+        ⌝ }
 {
     let compared = differing(left, right, places);
     let n = compared.count();
@@ -618,8 +692,16 @@ fn list(
     requires { ⌜ n ≤ length (now places) ⌝ }
     requires { ⌜ over 0 (differingIn (now left) (now right)) (now places) ≡ now places ⌝ }
     requires { ⌜ state .number < 65536 ⌝ }
-    ensures { λ r. ⌜ r ≡ turnOf (listed state (now («left_front» .entry)) (now («right_front» .entry)) (now (left .entry)) (now (right .entry)) (now (out .entry))) ⌝ }
-    ensures { λ _. ⌜ now (out .exit) ≡ listed state (now («left_front» .entry)) (now («right_front» .entry)) (now (left .entry)) (now (right .entry)) (now (out .entry)) .out ⌝ }
+    ensures { λ r. ⌜
+        r
+        ≡ turnOf (listed state (now («left_front» .entry)) (now («right_front» .entry)) (now (left .entry))
+        (now (right .entry)) (now (out .entry)))
+        ⌝ }
+    ensures { λ _. ⌜
+        now (out .exit)
+        ≡ listed state (now («left_front» .entry)) (now («right_front» .entry)) (now (left .entry)) (now (right .entry))
+        (now (out .entry)) .out
+        ⌝ }
 {
     let bytes = put_lines(state.number as u16, left, right, places, n, out);
     let there = past(state, left_front, right_front);
@@ -645,7 +727,10 @@ fn put_lines(i: u16, left: &[u64], right: &[u64], places: &[u16], n: usize, out:
     requires { ⌜ n ≤ length (now places) ⌝ }
     requires { ⌜ over 0 (differingIn (now left) (now right)) (now places) ≡ now places ⌝ }
     ensures { λ r. ⌜ r ≡ length (linesOf (changesIn i (now (left .entry)) (now (right .entry)))) ⌝ }
-    ensures { λ _. ⌜ now (out .exit) ≡ over 0 (linesOf (changesIn i (now (left .entry)) (now (right .entry)))) (now (out .entry)) ⌝ }
+    ensures { λ _. ⌜
+        now (out .exit)
+        ≡ over 0 (linesOf (changesIn i (now (left .entry)) (now (right .entry)))) (now (out .entry))
+        ⌝ }
 {
     let mut at = 0;
     let mut k = 0;
@@ -657,7 +742,8 @@ fn put_lines(i: u16, left: &[u64], right: &[u64], places: &[u16], n: usize, out:
     at
 }
 
-// A count with n more, and the largest number where they do not fit. There are never so many: it is so that any state can be given.
+// A count with n more, and the largest number where they do not fit. There are never so many: it is so that any state
+// can be given.
 fn plus(count: u64, n: u64) -> u64
     ensures { λ r. ⌜ r ≡ min (count + n) largestU64 ⌝ }
 {

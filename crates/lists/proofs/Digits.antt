@@ -1,5 +1,6 @@
--- The laws of a number and its digits, over the number b of bits of a digit: a number is below the power that its digits fill, its digits
--- are the ones that it was made of, and the number made of the digits of m is m, cut to that many digits.
+-- The laws of a number and its digits, over the number b of bits of a digit: a number is below the power that its
+-- digits fill, its digits are the ones that it was made of, and the number made of the digits of m is m, cut to that
+-- many digits.
 -- Assumes nothing.
 use mathlib.Core.Path.{_≡_, refl, sym, ap, _∙_}
 use mathlib.Core.List.{List}

@@ -51,7 +51,8 @@ highest-beyond n xs some = (
       highest-below n xs (omega (arith, all 0 some)) all),
 )
 
--- what the loop that looks for it keeps: the highest number of the places passed, with those still to come, is the highest of all
+-- what the loop that looks for it keeps: the highest number of the places passed, with those still to come, is the
+-- highest of all
 pub record Passed (xs : List ℕ) (high i : ℕ) : Type 0 where
   pub within : i ≤ length xs
   pub same : max high (highestOf (drop i xs)) ≡ highestOf xs

@@ -38,7 +38,8 @@ unfolding lowestOf
 lowest-element [] = omega arith
 lowest-element (x ∷ xs) = let m : lowestOf xs < 2 ^ 64 = lowest-element xs in omega arith
 
--- What the loop that looks for it keeps: the lowest number of the places passed, with those still to come, is the lowest of all.
+-- What the loop that looks for it keeps: the lowest number of the places passed, with those still to come, is the
+-- lowest of all.
 pub record Passed (xs : List ℕ) (low i : ℕ) : Type 0 where
   pub within : i ≤ length xs
   pub small : low < 18446744073709551616

@@ -1,5 +1,5 @@
--- The laws of a list that is written over another, whatever stands in the two: one entry is written, nothing is, two runs are written one after the other,
--- two runs are written apart, and a run is written through a tail that was lent.
+-- The laws of a list that is written over another, whatever stands in the two: one entry is written, nothing is, two
+-- runs are written one after the other, two runs are written apart, and a run is written through a tail that was lent.
 -- Assumes nothing.
 use mathlib.Core.Path.{_≡_, sym, ap, _∙_}
 use mathlib.Core.List.{List, [], _∷_, _++_, append-nil, append-assoc}

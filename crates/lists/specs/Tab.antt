@@ -1,5 +1,5 @@
--- Lists that are given by a rule for their entries. Every block that a call leaves behind is said in this form, or as a list written over
--- another, so it is one list and no other.
+-- Lists that are given by a rule for their entries. Every block that a call leaves behind is said in this form, or as a
+-- list written over another, so it is one list and no other.
 -- Assumes nothing.
 use mathlib.Core.List.{List, [], _∷_, _++_}
 use Prim.Native.Nat.{ℕ, zero, suc, _+_}

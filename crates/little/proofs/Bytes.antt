@@ -1,5 +1,5 @@
--- The laws of the bytes that numbers are written as: how many they are, that each is a byte, that reading them gives the numbers back, and what
--- the stores of a write come to.
+-- The laws of the bytes that numbers are written as: how many they are, that each is a byte, that reading them gives
+-- the numbers back, and what the stores of a write come to.
 -- Assumes nothing.
 use mathlib.Core.Bool.{true, false}
 use mathlib.Core.Path.{_≡_, refl, sym, ap, ap₂, _∙_}
@@ -161,7 +161,8 @@ module _ (k : ℕ) (numbers bytes : List ℕ) where
   unfolding writeLeaves
   write-none h = simp (lt-leb (k * length numbers) (length bytes) h)
 
--- The law behind a loop that lays numbers down front to back: y is x with the bytes of the first n numbers of l written over its front.
+-- The law behind a loop that lays numbers down front to back: y is x with the bytes of the first n numbers of l written
+-- over its front.
 pub record Laid (k n : ℕ) (l x y : List ℕ) : Type 0 where
   pub room : k * length l ≤ length x
   pub within : n ≤ length l

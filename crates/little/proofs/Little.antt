@@ -1,4 +1,5 @@
--- The laws of little-endian numbers: a number is made of its two halves, and knows nothing of the bytes before and after its own.
+-- The laws of little-endian numbers: a number is made of its two halves, and knows nothing of the bytes before and
+-- after its own.
 -- Assumes nothing.
 use mathlib.Core.Bool.{Bool, true, false}
 use mathlib.Core.Path.{_≡_, refl, sym, ap, ap₂, _∙_}

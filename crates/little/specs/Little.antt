@@ -20,12 +20,13 @@ littleOr l at k = pick (leb (at + k) (length l)) (little l at k) 0
 unfoldable pub numbersOf : (k : ℕ) (bytes : List ℕ) (n : ℕ) → List ℕ
 numbersOf k bytes n = tab n (λ i. little bytes (i * k) k)
 
--- Reading fills the whole list with the numbers of k bytes that stand from the front of the bytes on. Where there are too few bytes, the list
--- is left as it was.
+-- Reading fills the whole list with the numbers of k bytes that stand from the front of the bytes on. Where there are
+-- too few bytes, the list is left as it was.
 unfoldable pub readLeaves : (k : ℕ) (bytes numbers : List ℕ) → List ℕ
 readLeaves k bytes numbers = pick (leb (k * length numbers) (length bytes)) (numbersOf k bytes (length numbers)) numbers
 
--- These are the k bytes of a number, lowest first. Of a number that k bytes do not hold, they are those of its remainder.
+-- These are the k bytes of a number, lowest first. Of a number that k bytes do not hold, they are those of its
+-- remainder.
 unfoldable pub bytesOf : (k x : ℕ) → List ℕ
 bytesOf zero x = []
 bytesOf (suc k) x = x % 256 ∷ bytesOf k (x / 256)
@@ -39,6 +40,7 @@ allBytes k (x ∷ numbers) = bytesOf k x ++ allBytes k numbers
 unfoldable pub putLeaves : (k x at : ℕ) (bytes : List ℕ) → List ℕ
 putLeaves k x at bytes = pick (leb (at + k) (length bytes)) (over at (bytesOf k x) bytes) bytes
 
--- Writing lays the numbers down from the front of the bytes on, k bytes for each. Where they do not all fit, the bytes are left as they were.
+-- Writing lays the numbers down from the front of the bytes on, k bytes for each. Where they do not all fit, the bytes
+-- are left as they were.
 unfoldable pub writeLeaves : (k : ℕ) (numbers bytes : List ℕ) → List ℕ
 writeLeaves k numbers bytes = pick (leb (k * length numbers) (length bytes)) (over 0 (allBytes k numbers) bytes) bytes

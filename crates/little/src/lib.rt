@@ -1,5 +1,5 @@
-// Little-endian numbers in bytes: one number at a place, and a list of numbers from the front on, read and written. No part
-// of the crate fastlanes; column files and case streams are made of such numbers.
+// Little-endian numbers in bytes: one number at a place, and a list of numbers from the front on, read and written. No
+// part of the crate fastlanes; column files and case streams are made of such numbers.
 //
 // A number is read and written by halves: the compiler makes one load and one store of it.
 ghost use mathlib.Core.Path.{_≡_};
@@ -39,7 +39,8 @@ pub fn word(bytes: &[u8], at: usize) -> u64
     0
 }
 
-// Fills `pairs` with the numbers of two bytes from the front of `bytes` on; writes nothing where there are too few bytes.
+// Fills `pairs` with the numbers of two bytes from the front of `bytes` on; writes nothing where there are too few
+// bytes.
 pub fn read_pairs(bytes: &[u8], pairs: &mut [u16])
     ensures { λ _. ⌜ now (pairs .exit) ≡ readLeaves 2 (now (bytes .entry)) (now (pairs .entry)) ⌝ }
 {
@@ -48,7 +49,8 @@ pub fn read_pairs(bytes: &[u8], pairs: &mut [u16])
     }
 }
 
-// Fills `words` with the numbers of eight bytes from the front of `bytes` on; writes nothing where there are too few bytes.
+// Fills `words` with the numbers of eight bytes from the front of `bytes` on; writes nothing where there are too few
+// bytes.
 pub fn read_words(bytes: &[u8], words: &mut [u64])
     ensures { λ _. ⌜ now (words .exit) ≡ readLeaves 8 (now (bytes .entry)) (now (words .entry)) ⌝ }
 {

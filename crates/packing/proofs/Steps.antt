@@ -1,6 +1,6 @@
--- What one turn of the walks over a lane computes, over the element size t and the width w. Row r of a lane begins at bit s of word k,
--- which is said by r * w ≡ k * t + s and s < t. A walk that reads takes the row's value out of one word or two; a walk that writes holds
--- the word that is not full yet.
+-- What one turn of the walks over a lane computes, over the element size t and the width w. Row r of a lane begins at
+-- bit s of word k, which is said by r * w ≡ k * t + s and s < t. A walk that reads takes the row's value out of one
+-- word or two; a walk that writes holds the word that is not full yet.
 -- Assumes nothing.
 use mathlib.Core.Path.{_≡_, sym, ap, _∙_}
 use Prim.Native.Nat.{ℕ, _+_, _-_, _*_, _/_, _%_, _^_, _≤_, _<_}
@@ -144,7 +144,8 @@ module _ (t w r k s : ℕ) (e : r * w ≡ k * t + s) (hs : s < t) where
     pub read-one : 0 < w → s + w ≤ t → digit w (number t f w) r ≡ f k / 2 ^ s % 2 ^ w
     read-one pos l = digit-one (number t f w) l ∙ rw (digit-number t f w k small (word-lt t w r k s e hs hr pos))
 
-    -- Any value is cut out of its word and the next one, taken together; where there is no next word, none of it is cut out of that.
+    -- Any value is cut out of its word and the next one, taken together; where there is no next word, none of it is cut
+    -- out of that.
     pub over-reads : 0 < w → w ≤ t → digit w (number t f w) r ≡ (f k / 2 ^ s + f (k + 1) * 2 ^ (t - s)) % 2 ^ w
     over-reads pos wide = by (decLe (s + w) t)
       where
@@ -171,7 +172,8 @@ module _ (t w r k s : ℕ) (e : r * w ≡ k * t + s) (hs : s < t) where
 
 -- ---- writing
 
--- The first r digits of w bits leave this over for the digit of t bits that they do not fill: a word that is being packed holds it.
+-- The first r digits of w bits leave this over for the digit of t bits that they do not fill: a word that is being
+-- packed holds it.
 unfoldable pub held : (t w : ℕ) (f : ℕ → ℕ) (r : ℕ) → ℕ
 held t w f r = number w f r / 2 ^ (t * (r * w / t))
 

@@ -132,7 +132,8 @@ module _ {t : ℕ} (size : Size t) (w r : ℕ) (hr : r < t) (narrow : w < t) (va
       (λ l _. sym (write-on t w r (r * w / t) (r * w % t) (begins t w r) s-less (part w values l) (parts-small l) hr less))
 
   module _ (full : t ≤ r * w % t + w) where
-    -- Where they are full they are the packed block's words. What the values of row r have above the width does not reach them.
+    -- Where they are full they are the packed block's words. What the values of row r have above the width does not
+    -- reach them.
     pub full-words : orShlOf t (heldRow t w values r) (rowOf t values r) (r * w % t) ≡ tab (lanes t) (λ l. wordAt t w values (lanes t * (r * w / t) + l))
     unfolding heldRow valuesNumber part
     full-words =

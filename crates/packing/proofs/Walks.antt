@@ -132,7 +132,8 @@ module _ {t : ℕ} (size : Size t) {w r s word : ℕ} (hr : r < t) (pos : 0 < w)
 
 -- ---- the walks that pack
 
--- A packed block of the right length is filled up to word k where the rows of words in front of that hold what they should.
+-- A packed block of the right length is filled up to word k where the rows of words in front of that hold what they
+-- should.
 pub record Filled (t w : ℕ) (values : List ℕ) (k : ℕ) (packed : List ℕ) : Type 0 where
   pub fits : length packed ≡ lanes t * w
   pub front : take (lanes t * k) packed ≡ tab (lanes t * k) (wordAt t w values)
@@ -169,7 +170,8 @@ filled-next {t} {w} {values} {packed} {z} {row} k h p er ez =
           ∙ ap (λ m. tab m (wordAt t w values)) (sym e);
     }
 
--- Before row r, the words that are full stand in the packed block, the others are held, and the row starts at place `start`.
+-- Before row r, the words that are full stand in the packed block, the others are held, and the row starts at place
+-- `start`.
 pub record Packing (t w : ℕ) (values : List ℕ) (r : ℕ) (packed held : List ℕ) (s word start : ℕ) : Type 0 where
   pub stands : At t w r s word
   pub holds : held ≡ heldRow t w values r

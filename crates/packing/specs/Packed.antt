@@ -24,7 +24,8 @@ wordsNumber t w packed l = number t (word t packed l) w
 unfoldable pub valuesNumber : (t w : ℕ) (values : List ℕ) (l : ℕ) → ℕ
 valuesNumber t w values l = number w (part w values l) t
 
--- In the packed block the words of each lane, as digits of t bits, make the values' number. Entry i is word i / LANES of lane i mod LANES.
+-- In the packed block the words of each lane, as digits of t bits, make the values' number. Entry i is word i / LANES
+-- of lane i mod LANES.
 unfoldable pub wordAt : (t w : ℕ) (values : List ℕ) (i : ℕ) → ℕ
 wordAt t w values i = digit t (valuesNumber t w values (i % lanes t)) (i / lanes t)
 

@@ -1,4 +1,5 @@
--- What is given and left by an answer: of a call that is done, and of one that is refused. And a list of tests that all pass.
+-- What is given and left by an answer: of a call that is done, and of one that is refused. And a list of tests that all
+-- pass.
 -- Assumes nothing.
 use mathlib.Core.Bool.{Bool, true, false}
 use mathlib.Core.List.{List, _∷_, map}

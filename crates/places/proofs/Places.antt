@@ -1,5 +1,5 @@
--- The laws of places, lanes, rows and sources, each once, over the element size. A law of all 1,024 places is a test that is computed
--- at each of them.
+-- The laws of places, lanes, rows and sources, each once, over the element size. A law of all 1,024 places is a test
+-- that is computed at each of them.
 -- Assumes nothing.
 use mathlib.Core.Path.{_≡_, refl, sym, ap, ap₂, _∙_, subst, subst₂, subst⁻¹}
 use mathlib.Core.Logic.{⊎-elim, inl, inr}
@@ -158,7 +158,8 @@ row-start o i h =
 pub row-within : (o i : ℕ) → o < 8 → i < 8 → place (o % 8 * 8 + i % 8) 0 ≡ place (o * 8 + i) 0
 row-within o i ho hi = ap (λ r. place r 0) (omega arith)
 
--- a walk that goes from row to row finds each row's start from the one before; after the last row the starts begin again
+-- a walk that goes from row to row finds each row's start from the one before; after the last row the starts begin
+-- again
 pub start-next : (r q : ℕ) → r < 64 → q ≡ place (r % 64) 0 → nextStart q (r + 1) ≡ place ((r + 1) % 64) 0
 unfolding order place nextStart
 start-next r q h e = ap (λ q. nextStart q (r + 1)) e ∙ same 64 (λ r. nextStart (place (r % 64) 0) (r + 1)) (λ r. place ((r + 1) % 64) 0) tt r h

@@ -1,5 +1,5 @@
--- What a call answers: the numbers and places of document 01's table, "Numbers given back", and what a call leaves in a lent buffer. The
--- table's tests stand in Takes.
+-- What a call answers: the numbers and places of document 01's table, "Numbers given back", and what a call leaves in a
+-- lent buffer. The table's tests stand in Takes.
 -- Assumes nothing.
 use mathlib.Core.Bool.{Bool}
 use Prim.Native.Nat.{ℕ}
@@ -34,6 +34,7 @@ placeOf (Dictionary p) = p
 abbrev pub isDone : Answer → Bool
 isDone a = eqb (numberOf a) 0
 
--- This is what a lent buffer holds after a call: where the call is done what it should hold, and after a refusal what it held.
+-- This is what a lent buffer holds after a call: where the call is done what it should hold, and after a refusal what
+-- it held.
 abbrev pub left : {A : Type 0} → Answer → (new old : A) → A
 left a new old = pick (isDone a) new old

@@ -1,4 +1,5 @@
--- The rule of the walk that transpose and untranspose are made of. The contracts of its private steps name it; no public contract does.
+-- The rule of the walk that transpose and untranspose are made of. The contracts of its private steps name it; no
+-- public contract does.
 -- Assumes nothing.
 use Prim.Native.Nat.{ℕ, _+_, _*_, _/_, _%_}
 use Rattle.places.specs.Places.{order}

@@ -15,8 +15,9 @@ order n = getD (0 ∷ 4 ∷ 2 ∷ 6 ∷ 1 ∷ 5 ∷ 3 ∷ 7 ∷ []) n 0
 unfoldable pub place : (r l : ℕ) → ℕ
 place r l = order (r / 8) * 16 + (r % 8) * 128 + l
 
--- This is where row r starts, when the row before starts at q: 128 places on, and at every eighth row by the order list. That it is so for each
--- row is a law. Any two numbers give one: q is brought into a block, and r among 64 rows, so that behind the last of them row 0 comes again.
+-- This is where row r starts, when the row before starts at q: 128 places on, and at every eighth row by the order
+-- list. That it is so for each row is a law. Any two numbers give one: q is brought into a block, and r among 64 rows,
+-- so that behind the last of them row 0 comes again.
 unfoldable pub nextStart : (q r : ℕ) → ℕ
 nextStart q r = pick (eqb (r % 8) 0) (place (r / 8 % 8 * 8) 0) (q % 1024 + 128)
 
@@ -24,8 +25,8 @@ nextStart q r = pick (eqb (r % 8) 0) (place (r / 8 % 8 * 8) 0) (q % 1024 + 128)
 unfoldable pub lane : (t p : ℕ) → ℕ
 lane t p = p % lanes t
 
--- This is its row. That a place has no other lane and row is a law: `place` takes the two back to the place, and they take every
--- `place r l` back to l and r.
+-- This is its row. That a place has no other lane and row is a law: `place` takes the two back to the place, and they
+-- take every `place r l` back to l and r.
 unfoldable pub row : (t p : ℕ) → ℕ
 row t p = order ((p % 128 - lane t p) / 16) * 8 + p / 128
 

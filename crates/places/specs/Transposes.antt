@@ -1,5 +1,5 @@
--- The value transpose and its inverse (document 01, "Places, lanes and rows"): what each call takes, and what it leaves in its output.
--- Neither depends on the element size.
+-- The value transpose and its inverse (document 01, "Places, lanes and rows"): what each call takes, and what it leaves
+-- in its output. Neither depends on the element size.
 -- Assumes nothing.
 use mathlib.Core.List.{List, [], _∷_}
 use Prim.Native.Nat.{ℕ}
@@ -13,7 +13,8 @@ use Rattle.places.specs.Takes.{Taken, a-block, answerFor}
 unfoldable pub transposeOf : List ℕ → List ℕ
 transposeOf v = tab 1024 (λ i. getD v (source i) 0)
 
--- Untranspose puts the value found at i at the source of i: so at j stands the value found at the place whose source is j.
+-- Untranspose puts the value found at i at the source of i: so at j stands the value found at the place whose source is
+-- j.
 unfoldable pub untransposeOf : List ℕ → List ℕ
 untransposeOf v = tab 1024 (λ j. getD v (target j) 0)
 

@@ -90,8 +90,8 @@ pub fn row_start(o: usize, i: usize) -> usize
     order(o % 8) * 16 + i % 8 * 128
 }
 
-// The place where row r starts, in lane 0, when the row before it starts at `start`: 128 places on, and at every eighth row by the
-// order list. A walk that goes from row to row has less to do so than with `row_start`.
+// The place where row r starts, in lane 0, when the row before it starts at `start`: 128 places on, and at every eighth
+// row by the order list. A walk that goes from row to row has less to do so than with `row_start`.
 pub fn next_start(start: usize, r: usize) -> usize
     ensures { λ x. ⌜ x ≡ Places.nextStart start r ⌝ }
 {

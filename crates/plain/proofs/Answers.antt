@@ -1,4 +1,5 @@
--- What the plain calls answer, by the tests that they make, over the element size; what was taken where a call is done; and what a refused call leaves.
+-- What the plain calls answer, by the tests that they make, over the element size; what was taken where a call is done;
+-- and what a refused call leaves.
 -- Assumes nothing.
 use mathlib.Core.Path.{_≡_}
 use mathlib.Core.List.{List}

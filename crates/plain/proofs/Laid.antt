@@ -1,4 +1,5 @@
--- The packed block of the plain engine is laid out as the sentence of specs/Plain says, and there is no other such block. Over the element size.
+-- The packed block of the plain engine is laid out as the sentence of specs/Plain says, and there is no other such
+-- block. Over the element size.
 -- Assumes nothing.
 use mathlib.Core.List.{List}
 use mathlib.Core.Path.{_≡_, sym, ap, ap₂, _∙_, subst}

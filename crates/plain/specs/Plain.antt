@@ -1,4 +1,5 @@
--- The packed layout read one bit at a time (document 02, Item 8), over the element size t and the width w. All of it is one sentence:
+-- The packed layout read one bit at a time (document 02, Item 8), over the element size t and the width w. All of it is
+-- one sentence:
 --
 --     bit b of row r of lane l is bit (r·w + b) mod t of word (r·w + b) / t of that lane.
 --
@@ -39,8 +40,8 @@ plainValue t w packed p = valueIn t w packed (lane t p) (row t p)
 unfoldable pub plainUnpack : (t w : ℕ) (packed : List ℕ) → List ℕ
 plainUnpack t w packed = tab 1024 (plainValue t w packed)
 
--- Read the other way round the sentence says what bit j of word k of lane l is: r·w + b is k·t + j there, so it is bit (k·t + j) mod w of row
--- (k·t + j) / w. Where there are words at all, w is not 0.
+-- Read the other way round the sentence says what bit j of word k of lane l is: r·w + b is k·t + j there, so it is bit
+-- (k·t + j) mod w of row (k·t + j) / w. Where there are words at all, w is not 0.
 unfoldable pub bitOf : (t w : ℕ) (values : List ℕ) (l k j : ℕ) → ℕ
 bitOf t w values l k j = bit (getD values (place ((k * t + j) / w) l) 0) ((k * t + j) % w)
 
@@ -52,13 +53,14 @@ wordIn t w values l k = number 1 (bitOf t w values l k) t
 unfoldable pub plainPack : (t w : ℕ) (values : List ℕ) → List ℕ
 plainPack t w values = tab (lanes t * w) (λ i. wordIn t w values (i % lanes t) (i / lanes t))
 
--- A packed block is laid out as the sentence says, for these values, where each bit of each row of each lane is the bit of the value there. That the
--- block above is laid out so, and no other block of numbers of t bits is, is a law.
+-- A packed block is laid out as the sentence says, for these values, where each bit of each row of each lane is the bit
+-- of the value there. That the block above is laid out so, and no other block of numbers of t bits is, is a law.
 pub record Laid (t w : ℕ) (values packed : List ℕ) : Type 0 where
   pub whole : length packed ≡ lanes t * w
   pub bits : (l r b : ℕ) → l < lanes t → r < t → b < w → bitAt t w packed l r b ≡ bit (getD values (place r l) 0) b
 
--- Bit b of row r comes from a word that no bit before it came from where it is the first one, or the bit before it came from another word.
+-- Bit b of row r comes from a word that no bit before it came from where it is the first one, or the bit before it came
+-- from another word.
 unfoldable pub newWord : (t w r b : ℕ) → ℕ
 newWord t w r b = pick (eqb b 0) 1 (pick (eqb (wordOf t w r b) (wordOf t w r (b - 1))) 0 1)
 

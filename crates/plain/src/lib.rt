@@ -2,8 +2,8 @@
 //
 //     bit b of row r of lane l is bit (r · W + b) mod T of word (r · W + b) / T of that lane.
 //
-// It is slow, and it is there to be believed: it leans on no code of packing or access, and has no rule of its own for any width.
-// What asks for no element stands here; each element size has a module of its own.
+// It is slow, and it is there to be believed: it leans on no code of packing or access, and has no rule of its own for
+// any width. What asks for no element stands here; each element size has a module of its own.
 pub mod t16;
 pub mod t32;
 pub mod t64;
@@ -79,7 +79,8 @@ fn bit_in_word(t: usize, width: usize, row: usize, b: usize) -> usize
     (row * width + b) % t
 }
 
-// 1 where bit b of a row comes from another word than the bit before it, and for the first bit, before which there is none; else 0.
+// 1 where bit b of a row comes from another word than the bit before it, and for the first bit, before which there is
+// none; else 0.
 fn new_word(t: usize, width: usize, row: usize, b: usize) -> usize
     requires { ⌜ Size t ⌝ }
     requires { ⌜ (width ≤ t) × (row < t) × (b < width) ⌝ }

@@ -1,5 +1,5 @@
--- Each batch entry is the single answer taken apart: its number, or its refusal (document 01, "Numbers given back"). Each law speaks of what
--- list access and single access give and leave, for every list.
+-- Each batch entry is the single answer taken apart: its number, or its refusal (document 01, "Numbers given back").
+-- Each law speaks of what list access and single access give and leave, for every list.
 -- Assumes nothing.
 use mathlib.Core.List.{List}
 use mathlib.Core.Path.{_≡_, refl, ap}
@@ -20,7 +20,8 @@ use Rattle.access.proofs.Accesses.{list-single, list-refused}
 use Rattle.promises.proofs.Numbers.{single-numbers, list-numbers}
 
 module _ (t w : ℕ) (packed indices output : List ℕ) where
-  -- Where the list is done, each entry that it leaves is the value that single access gives for its index, with its count.
+  -- Where the list is done, each entry that it leaves is the value that single access gives for its index, with its
+  -- count.
   pub batch-done : {S : Type 0} (value : ℕ → ℕ → S) (refused : Answer → S) → answerFor (listTakes t w packed indices output) ≡ Done
       → (i : ℕ) → i < length indices
       → singleOf value refused t w packed (getD indices i 0) ≡ value (getD (listLeaves t w packed indices output) i 0) (getD (countsOf t w indices) i 0)
@@ -38,7 +39,8 @@ module _ (t w : ℕ) (packed indices output : List ℕ) where
           | no d ↦ absurd (refused (single-numbers t w packed i 0 .0 .1 (hw, (ep, (omega arith, refl))) .0))
         ]
 
-    -- One entry that single access refuses refuses the whole list, with the lowest place of such an entry, and nothing is written.
+    -- One entry that single access refuses refuses the whole list, with the lowest place of such an entry, and nothing
+    -- is written.
     pub batch-refused : (i : ℕ) → i < length indices → (numberOf (answerFor (singleTakes t w packed (getD indices i 0))) ≡ 0 → ⊥)
         → (answerFor (listTakes t w packed indices output) ≡ Index (firstBeyond 1024 indices))
         × (firstBeyond 1024 indices ≤ i)

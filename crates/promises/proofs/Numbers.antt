@@ -1,9 +1,11 @@
--- Document 01's table, "Numbers given back", call by call and in plain arithmetic: when a call gives each of its numbers with place p. All
--- of it follows from the one table. Then the table's corners: an empty dictionary, and width 0, where every value is 0 and an index is looked at as anywhere.
+-- Document 01's table, "Numbers given back", call by call and in plain arithmetic: when a call gives each of its
+-- numbers with place p. All of it follows from the one table. Then the table's corners: an empty dictionary, and width
+-- 0, where every value is 0 and an index is looked at as anywhere.
 --
--- In each statement `gives n` says that the call gives number n with place p. To the right of it stand first the conditions of the lower
--- numbers, turned round since none of them applies, and then the number's own with its place. A number that has no line belongs to nothing
--- that the call takes, so the table never gives it; `exactly` in proofs/Tables.antt says that too.
+-- In each statement `gives n` says that the call gives number n with place p. To the right of it stand first the
+-- conditions of the lower numbers, turned round since none of them applies, and then the number's own with its place. A
+-- number that has no line belongs to nothing that the call takes, so the table never gives it; `exactly` in
+-- proofs/Tables.antt says that too.
 -- Assumes nothing.
 use mathlib.Core.List.{List, []}
 use mathlib.Core.Logic.{_↔_, _≢_, _⊎_}

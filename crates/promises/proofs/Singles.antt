@@ -1,5 +1,6 @@
--- A call that gives a value or a refusal: what is read off it. The answer of single access is the table's, and the value is the one at the index
--- where the call is done, and else 0. It also has the count of its words, and of a refused call none.
+-- A call that gives a value or a refusal: what is read off it. The answer of single access is the table's, and the
+-- value is the one at the index where the call is done, and else 0. It also has the count of its words, and of a
+-- refused call none.
 -- Assumes nothing.
 use mathlib.Core.List.{List}
 use mathlib.Core.Path.{_≡_, refl}
@@ -22,8 +23,8 @@ use Rattle.access.specs.declared.t32.Single.the-variants as v32
 use Rattle.access.specs.declared.t64.Single.the-variants as v64
 use Rattle.access.proofs.Accesses.{single-answers, single-values, single-counts}
 
--- This is what single access gives. Its answer is the table's. Where it is done its value and its count are those at the index. After a refusal 0
--- stands for the value, and `noCount` for the count.
+-- This is what single access gives. Its answer is the table's. Where it is done its value and its count are those at
+-- the index. After a refusal 0 stands for the value, and `noCount` for the count.
 pub record Read (answer : Answer) (value count t w : ℕ) (packed : List ℕ) (index : ℕ) : Type 0 where
   pub answers : answer ≡ answerFor (singleTakes t w packed index)
   pub gives : value ≡ left (answerFor (singleTakes t w packed index)) (valueAt t w packed index) 0

@@ -1,5 +1,6 @@
--- The calls answer by document 01's table, "Numbers given back": each number is given, with its place, exactly when it applies and no lower
--- one does. This is shown once, for every list of things taken that stands in the order of the numbers, as each call's does.
+-- The calls answer by document 01's table, "Numbers given back": each number is given, with its place, exactly when it
+-- applies and no lower one does. This is shown once, for every list of things taken that stands in the order of the
+-- numbers, as each call's does.
 -- Assumes nothing.
 use mathlib.Core.Bool.{Bool, true, false}
 use mathlib.Core.List.{List, [], _∷_}
@@ -128,7 +129,8 @@ place-zero (Dictionary p) h = absurd (omega arith)
 
 -- ---- in the order of the numbers
 
--- y may stand after x where it has a higher number, or the same one, as two blocks have, if that one's place is always 0.
+-- y may stand after x where it has a higher number, or the same one, as two blocks have, if that one's place is always
+-- 0.
 abbrev follows : Taken → Taken → Bool
 follows x y = either (ltb (numberFor x) (numberFor y)) (both (eqb (numberFor x) (numberFor y)) (ltb (numberFor x) 6))
 
@@ -255,13 +257,15 @@ abbrev AllThen : List Taken → Type 0 → Type 0
 AllThen [] Q = Q
 AllThen (x ∷ xs) Q = InOrder x × AllThen xs Q
 
--- The condition of one that stands in the list holds at place p. It has no case too many, so that it reads well where it is computed.
+-- The condition of one that stands in the list holds at place p. It has no case too many, so that it reads well where
+-- it is computed.
 abbrev OneOf : List Taken → ℕ → Type 0
 OneOf [] p = ⊥
 OneOf (x ∷ []) p = Condition x p
 OneOf (x ∷ y ∷ ys) p = Condition x p ⊎ OneOf (y ∷ ys) p
 
--- `Given` with all that is to be shown spelled out. Where the number is known, this computes to plain arithmetic over what the call takes.
+-- `Given` with all that is to be shown spelled out. Where the number is known, this computes to plain arithmetic over
+-- what the call takes.
 abbrev pub Plain : List Taken → ℕ → ℕ → Type 0
 Plain taken zero p = AllThen (keep (λ m. true) taken) (p ≡ 0)
 Plain taken (suc n) p = AllThen (keep (λ m. ltb m (suc n)) taken) (OneOf (keep (λ m. eqb m (suc n)) taken) p)

@@ -1,5 +1,6 @@
--- The cases that document 01 marks P ("Cases at the edges"): the kinds of case, what it means that a case holds, and the one list of them.
--- Each meaning is said over the definitions that the contracts of the public calls name, and of every block that the case speaks of.
+-- The cases that document 01 marks P ("Cases at the edges"): the kinds of case, what it means that a case holds, and
+-- the one list of them. Each meaning is said over the definitions that the contracts of the public calls name, and of
+-- every block that the case speaks of.
 -- Assumes nothing.
 use mathlib.Core.List.{List, [], _∷_}
 use mathlib.Core.Path.{_≡_}
@@ -56,8 +57,8 @@ abbrev pub SameAt : (places x y : List ℕ) → Type 0
 SameAt [] x y = Unit
 SameAt (k ∷ ks) x y = (getD x k 0 ≡ getD y k 0) × SameAt ks x y
 
--- Single access at place p needs the word at k: two packed blocks that differ in that word alone give different answers. The enum is that of
--- t 8, the one size that a case has.
+-- Single access at place p needs the word at k: two packed blocks that differ in that word alone give different
+-- answers. The enum is that of t 8, the one size that a case has.
 pub record Needed (t w p k : ℕ) : Type 0 where
   pub one : List ℕ
   pub other : List ℕ
@@ -79,7 +80,8 @@ pub data Case : Type 0 where
   comes : (i j : ℕ) → Case
   -- Lane l, with these numbers in its rows, is packed at width w to these words.
   packs : (t w l : ℕ) (rows : List ℕ) (words : List Mark) → Case
-  -- With these packed words, single access at place p gives the value, from the words at these places, and says how many they are.
+  -- With these packed words, single access at place p gives the value, from the words at these places, and says how
+  -- many they are.
   reads : (t w : ℕ) (words : List Mark) (p value : ℕ) (from : List ℕ) → Case
   -- The value minus the reference is the difference, and from a frame that is packed at width w comes back the result.
   frames : (t w value reference difference result : ℕ) → Case
@@ -103,8 +105,8 @@ Holds (comes i j) =
 Holds (packs t w l rows words) =
     (values packed : List ℕ) → length values ≡ 1024 → length packed ≡ lanes t * w
     → Rows values l rows → Holding (packLeaves t w values packed) words
--- Whatever the other words are, single access gives the value and the number of its words. What it gives depends on no other words than those named, and on each of them.
--- The one such case has t 8, so the answer is of that size's enum.
+-- Whatever the other words are, single access gives the value and the number of its words. What it gives depends on no
+-- other words than those named, and on each of them. The one such case has t 8, so the answer is of that size's enum.
 Holds (reads t w words p value from) =
     ((packed : List ℕ) → length packed ≡ lanes t * w → Holding packed words → singleOf Value Refused t w packed p ≡ Value value (length from))
     × ((x y : List ℕ) → length x ≡ lanes t * w → length y ≡ lanes t * w → SameAt from x y

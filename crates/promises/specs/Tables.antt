@@ -1,6 +1,7 @@
--- The table of document 01, "Numbers given back", said a second time, in plain arithmetic and without a test or a search: when each number
--- applies, and that the lowest number that applies is given. It guards the table that the calls go by, which stands in places, Takes: that the
--- two agree, for whatever a call takes, is shown in proofs/Tables.antt, and proofs/Numbers.antt spells it out call by call.
+-- The table of document 01, "Numbers given back", said a second time, in plain arithmetic and without a test or a
+-- search: when each number applies, and that the lowest number that applies is given. It guards the table that the
+-- calls go by, which stands in places, Takes: that the two agree, for whatever a call takes, is shown in
+-- proofs/Tables.antt, and proofs/Numbers.antt spells it out call by call.
 -- Assumes nothing.
 use mathlib.Core.List.{List, [], _∷_}
 use mathlib.Core.Logic.{_↔_, _⊎_, _≢_}
@@ -45,7 +46,8 @@ abbrev pub Applies : (taken : List Taken) (n p : ℕ) → Type 0
 Applies [] n p = ⊥
 Applies (x ∷ xs) n p = ((numberFor x ≡ n) × Condition x p) ⊎ Applies xs n p
 
--- Number n is to be given with place p. It is 0, with place 0, where no number applies, and else one that applies, where no lower one does.
+-- Number n is to be given with place p. It is 0, with place 0, where no number applies, and else one that applies,
+-- where no lower one does.
 abbrev pub Given : (taken : List Taken) (n p : ℕ) → Type 0
 Given taken zero p = (p ≡ 0) × ((m q : ℕ) → ¬ Applies taken m q)
 Given taken (suc n) p = Applies taken (suc n) p × ((m q : ℕ) → m < suc n → ¬ Applies taken m q)
@@ -54,6 +56,7 @@ Given taken (suc n) p = Applies taken (suc n) p × ((m q : ℕ) → m < suc n �
 abbrev pub Gives : (a : Answer) (n p : ℕ) → Type 0
 Gives a n p = (numberOf a ≡ n) × (placeOf a ≡ p)
 
--- This says that an answer gives each number and place exactly when they are to be given to a call that takes these things.
+-- This says that an answer gives each number and place exactly when they are to be given to a call that takes these
+-- things.
 abbrev pub Exactly : Answer → List Taken → Type 0
 Exactly a taken = (n p : ℕ) → Gives a n p ↔ Given taken n p

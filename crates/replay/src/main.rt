@@ -113,8 +113,8 @@ fn case(head: Head) -> Step {
     judge(head, whole(head, reply), &c, &c_exit, &d, &d_exit)
 }
 
-// The reply with the reference and the index that go with it. Single access gives back its count as the reference, and access
-// under a budget its words as the index; else they are what the call was given.
+// The reply with the reference and the index that go with it. Single access gives back its count as the reference, and
+// access under a budget its words as the index; else they are what the call was given.
 fn whole(head: Head, reply: Reply) -> Reply {
     let op = head.op;
     match op {
@@ -124,8 +124,8 @@ fn whole(head: Head, reply: Reply) -> Reply {
     }
 }
 
-// The call: on bit blocks, or at the size of its elements. What has one size for all is made of b here: the indices of list
-// access, and the dictionary indices that decode takes.
+// The call: on bit blocks, or at the size of its elements. What has one size for all is made of b here: the indices of
+// list access, and the dictionary indices that decode takes.
 fn call(head: Head, a: &Wide, b: &Wide, c: &mut Wide) -> Reply {
     let op = head.op;
     if op == 13 || op == 14 {

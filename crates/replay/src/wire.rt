@@ -87,8 +87,8 @@ pub fn read_head() -> Beginning {
     Beginning::Whole(head_of(&bytes))
 }
 
-// Reads n elements of size bytes each, and answers whether they were all there. An element has 1, 2, 4 or 8 bytes, and a
-// buffer at most 4,096 elements: more are not read.
+// Reads n elements of size bytes each, and answers whether they were all there. An element has 1, 2, 4 or 8 bytes, and
+// a buffer at most 4,096 elements: more are not read.
 pub fn read_numbers(n: usize, size: usize, out: &mut Wide) -> bool {
     if n == 0 {
         return true;
@@ -121,7 +121,10 @@ fn numbers(bytes: &[u8; 32768], n: usize, size: usize, out: &mut [u64])
     requires { ⌜ n ≤ 4096 ⌝ }
     requires { ⌜ n ≤ length (now out) ⌝ }
     requires { ⌜ isSize size ≡ true ⌝ }
-    ensures { λ _. ⌜ now (out .exit) ≡ over 0 (tab n (λ k. little (now (bytes .entry)) (k * size) size)) (now (out .entry)) ⌝ }
+    ensures { λ _. ⌜
+        now (out .exit)
+        ≡ over 0 (tab n (λ k. little (now (bytes .entry)) (k * size) size)) (now (out .entry))
+        ⌝ }
 {
     let mut i = 0;
     while i < n {

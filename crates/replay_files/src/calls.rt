@@ -1,6 +1,6 @@
-// The calls: what each takes, and how those on files are made. A call has a line in `takes`; one that reads a file has a line
-// in `call`, those that write a file are made by `write` and `rewrite`, the calls on drawers are made in the modules of the sizes, and those
-// on a body that trickles in in trickles.
+// The calls: what each takes, and how those on files are made. A call has a line in `takes`; one that reads a file has
+// a line in `call`, those that write a file are made by `write` and `rewrite`, the calls on drawers are made in the
+// modules of the sizes, and those on a body that trickles in in trickles.
 use access::NO_COUNT;
 use access::Words;
 use contents::FileAnswer;
@@ -13,7 +13,8 @@ ghost use mathlib.Core.Path.{_≡_};
 ghost use Rattle.contents.specs.Answers.{numberOf, placeOf};
 ghost use Rattle.stream.specs.declared.Reply.the-variants.{Given};
 
-// What a call takes: for each buffer the bytes of an element, 0 where it takes no such buffer, and whether it takes an index.
+// What a call takes: for each buffer the bytes of an element, 0 where it takes no such buffer, and whether it takes an
+// index.
 struct Intake {
     a: usize,
     b: usize,
@@ -140,7 +141,8 @@ fn reply(answer: FileAnswer, value: u64) -> Reply
     }
 }
 
-// Of a refused lookup the value is 0. The count of words is given back as the reference, and there 2^64 - 1 says that there is none.
+// Of a refused lookup the value is 0. The count of words is given back as the reference, and there 2^64 - 1 says that
+// there is none.
 fn of_row(row: Row) -> Reply {
     reply(row.answer(), row.value()).with_reference(words_of(row))
 }

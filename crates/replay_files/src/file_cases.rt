@@ -20,8 +20,8 @@ ghost use Rattle.little.specs.Little.{numbersOf};
 ghost use Rattle.stream.specs.declared.Step.the-variants.{Same};
 ghost use Rattle.stream.specs.Expected.{AsExpected};
 
-// A case after its head. The buffers are made here and lent from here on as slices: the file, which is read or written, the
-// numbers, which are given back or taken, and the bytes of what is read last. A fourth would not fit the stack.
+// A case after its head. The buffers are made here and lent from here on as slices: the file, which is read or written,
+// the numbers, which are given back or taken, and the bytes of what is read last. A fourth would not fit the stack.
 pub fn case(head: Head) -> Step {
     let mut file = [0u8; 2_200_000];
     let mut numbers = [0u64; 275_000];
@@ -38,8 +38,8 @@ fn lend(
     made(head, file, numbers, bytes)
 }
 
-// Reads the buffers, makes the call and compares. The bytes of c at exit are read last, so they are what stands in bytes
-// then.
+// Reads the buffers, makes the call and compares. The bytes of c at exit are read last, so they are what stands in
+// bytes then.
 fn made(head: Head, file: &mut [u8], numbers: &mut [u64], bytes: &mut [u8]) -> Step {
     if writes(head.op) {
         write_case(head, numbers, file, bytes)
@@ -48,8 +48,8 @@ fn made(head: Head, file: &mut [u8], numbers: &mut [u64], bytes: &mut [u8]) -> S
     }
 }
 
-// The case of a call that reads a file: a is the file, b are the bounds of a search, and c are numbers. No such call gives back
-// an index.
+// The case of a call that reads a file: a is the file, b are the bounds of a search, and c are numbers. No such call
+// gives back an index.
 fn read_case(head: Head, a: &mut [u8], c: &mut [u64], bytes: &mut [u8]) -> Step {
     if !read_bytes(head.n_a, a) {
         return Step::Bad;
@@ -97,10 +97,16 @@ fn write_on_parts(head: Head, a: &[u64], c: &mut [u8]) -> Reply {
     write(&a[..n], &mut c[..m])
 }
 
-// What comes of the case with this head, from what its call gave back and left in c, and from the bytes that c is to have.
+// What comes of the case with this head, from what its call gave back and left in c, and from the bytes that c is to
+// have.
 pub fn judge(head: Head, reply: Reply, c: &[u64], c_exit: &[u8]) -> Step
-    ensures { λ r. ⌜ (r ≡ Same → AsExpected head reply (now (c .entry)) (numbersOf 8 (now («c_exit» .entry)) (head .«n_c»)) [] []) ⌝ }
-    ensures { λ r. ⌜ (head .«n_c» ≤ length (now (c .entry)) → 8 * head .«n_c» ≤ length (now («c_exit» .entry)) → AsExpected head reply (now (c .entry)) (numbersOf 8 (now («c_exit» .entry)) (head .«n_c»)) [] [] → r ≡ Same) ⌝ }
+    ensures { λ r. ⌜
+        (r ≡ Same → AsExpected head reply (now (c .entry)) (numbersOf 8 (now («c_exit» .entry)) (head .«n_c»)) [] [])
+        ⌝ }
+    ensures { λ r. ⌜
+        (head .«n_c» ≤ length (now (c .entry)) → 8 * head .«n_c» ≤ length (now («c_exit» .entry)) → AsExpected head
+        reply (now (c .entry)) (numbersOf 8 (now («c_exit» .entry)) (head .«n_c»)) [] [] → r ≡ Same)
+        ⌝ }
 {
     stream::judge(head, reply, same_words(c, c_exit, head.n_c))
 }
@@ -108,7 +114,10 @@ pub fn judge(head: Head, reply: Reply, c: &[u64], c_exit: &[u8]) -> Step
 // The same of a call that writes a file, where c has bytes itself.
 pub fn judge_write(head: Head, reply: Reply, c: &[u8], c_exit: &[u8]) -> Step
     ensures { λ r. ⌜ (r ≡ Same → AsExpected head reply (now (c .entry)) (now («c_exit» .entry)) [] []) ⌝ }
-    ensures { λ r. ⌜ (head .«n_c» ≤ length (now (c .entry)) → head .«n_c» ≤ length (now («c_exit» .entry)) → AsExpected head reply (now (c .entry)) (now («c_exit» .entry)) [] [] → r ≡ Same) ⌝ }
+    ensures { λ r. ⌜
+        (head .«n_c» ≤ length (now (c .entry)) → head .«n_c» ≤ length (now («c_exit» .entry)) → AsExpected head reply
+        (now (c .entry)) (now («c_exit» .entry)) [] [] → r ≡ Same)
+        ⌝ }
 {
     stream::judge(head, reply, same_bytes(c, c_exit, head.n_c))
 }

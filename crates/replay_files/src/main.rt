@@ -1,18 +1,17 @@
-// Replays a case stream of the calls that take a file or many blocks: reads the stream on standard input, makes each call
-// through the public functions, compares everything that the call gives back and leaves with what the stream expects, and
-// prints how many cases differ. The format of the stream and of what is printed is docs/CASES.md.
+// Replays a case stream of the calls that take a file or many blocks: reads the stream on standard input, makes each
+// call through the public functions, compares everything that the call gives back and leaves with what the stream
+// expects, and prints how many cases differ. The format of the stream and of what is printed is docs/CASES.md.
 //
-// The reading ends as a bad stream where the stream is cut, where a record names a call that is not made here, and where
-// there cannot be such a record: t is none of the call's sizes, a byte of zero is not 0, a buffer has more than 2,200,000
-// bytes, a search has other than two bounds, or something is given that the call does not take, be it a width, an index or an
-// element of a buffer. Of what is
-// expected nothing is impossible: a value, a place or a reference that the call does not give back is expected to be 0, and
-// a case that expects something else differs.
+// The reading ends as a bad stream where the stream is cut, where a record names a call that is not made here, and
+// where there cannot be such a record: t is none of the call's sizes, a byte of zero is not 0, a buffer has more than
+// 2,200,000 bytes, a search has other than two bounds, or something is given that the call does not take, be it a
+// width, an index or an element of a buffer. Of what is expected nothing is impossible: a value, a place or a reference
+// that the call does not give back is expected to be 0, and a case that expects something else differs.
 //
-// Here stand the loop over the cases and the way to each. Of the modules, wire reads the stream; calls says what each call
-// takes; file_cases makes the calls on files but for the one that rewrites a file, which rewrites makes; t8, t16, t32 and t64
-// make those on drawers, and trickles those on a body that comes in chunks; and print prints. The crate stream has the head of
-// a record, the judge and the counts.
+// Here stand the loop over the cases and the way to each. Of the modules, wire reads the stream; calls says what each
+// call takes; file_cases makes the calls on files but for the one that rewrites a file, which rewrites makes; t8, t16,
+// t32 and t64 make those on drawers, and trickles those on a body that comes in chunks; and print prints. The crate
+// stream has the head of a record, the judge and the counts.
 mod calls;
 mod file_cases;
 mod print;
@@ -92,8 +91,8 @@ fn next() -> Step {
     }
 }
 
-// A case after its head. The buffers of a case are large, and each way makes its own: those that are never there together
-// share their room on the stack.
+// A case after its head. The buffers of a case are large, and each way makes its own: those that are never there
+// together share their room on the stack.
 fn case(head: Head) -> Step {
     if is_drawer(head.op) {
         return drawer_case(head);

@@ -1,5 +1,5 @@
-// The cases of a body that trickles in (document 02, Item 10): how the buffers are read, a state started or made by hand, fed
-// chunk by chunk and asked, and what it left compared.
+// The cases of a body that trickles in (document 02, Item 10): how the buffers are read, a state started or made by
+// hand, fed chunk by chunk and asked, and what it left compared.
 use crate::file_cases::judge;
 use crate::wire::read_bytes;
 use crate::wire::read_eights;
@@ -22,8 +22,8 @@ ghost use Prim.Native.Nat.{_≤_};
 // The bytes that a state has room for: a state made by hand has them at the front of what the case gives.
 const ROOM: usize = 8192;
 
-// A case after its head. The buffers are made here: the bytes that are fed, the lengths of the chunks and then c, and the bytes
-// of what is read last.
+// A case after its head. The buffers are made here: the bytes that are fed, the lengths of the chunks and then c, and
+// the bytes of what is read last.
 pub fn case(head: Head) -> Step {
     let mut fed = [0u8; 2_200_000];
     let mut numbers = [0u64; 275_000];
@@ -90,8 +90,8 @@ fn asked(head: Head, trickled: Trickled, c: &mut [u64], bytes: &mut [u8]) -> Ste
     judge(head, given(head, answer, trickled.taken), c, bytes)
 }
 
-// The state that the case begins with: by call 30 with reference 0 one that is made by hand, and else the one that start gives,
-// which is an answer of its own by call 26 alone.
+// The state that the case begins with: by call 30 with reference 0 one that is made by hand, and else the one that
+// start gives, which is an answer of its own by call 26 alone.
 fn begin(head: Head, fed: &[u8]) -> Started {
     if by_hand(head) {
         let room = room_of(fed);
@@ -122,7 +122,8 @@ fn room_of(bytes: &[u8]) -> [u8; 8192] {
     room
 }
 
-// Feeds the bytes that the case gives, behind the room of a state that is made by hand, in chunks of the lengths that it gives.
+// Feeds the bytes that the case gives, behind the room of a state that is made by hand, in chunks of the lengths that
+// it gives.
 fn feed_parts(head: Head, state: State, fed: &[u8], lengths: &[u64]) -> Fed {
     let n = within_bytes(head.n_a, fed);
     let m = within_words(head.n_b, lengths);

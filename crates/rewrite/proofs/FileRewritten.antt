@@ -1,6 +1,7 @@
--- Document 02, Item 11, of the call: each number exactly when the document gives it, a refused call leaves the output as it was, and a call that is done
--- leaves the new file at the front and the bytes behind it. The outcome is that of a write of the file's rows. The new file has these rows and is of edition
--- 2 with no kind 3, a file that the writer wrote is rewritten as it is, and so a second rewrite changes nothing.
+-- Document 02, Item 11, of the call: each number exactly when the document gives it, a refused call leaves the output
+-- as it was, and a call that is done leaves the new file at the front and the bytes behind it. The outcome is that of a
+-- write of the file's rows. The new file has these rows and is of edition 2 with no kind 3, a file that the writer
+-- wrote is rewritten as it is, and so a second rewrite changes nothing.
 -- Assumes nothing.
 use mathlib.Core.List.{List}
 use mathlib.Core.Logic.{_↔_}

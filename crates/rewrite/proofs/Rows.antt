@@ -1,5 +1,6 @@
--- The new file is the writer's for the rows of the old one. The rows of an accepted file of bytes, as the writer takes them: whole blocks, at most 256, each
--- of which is laid down from its body. And where the next body of the new file begins.
+-- The new file is the writer's for the rows of the old one. The rows of an accepted file of bytes, as the writer takes
+-- them: whole blocks, at most 256, each of which is laid down from its body. And where the next body of the new file
+-- begins.
 -- Assumes nothing.
 use mathlib.Core.List.{List}
 use mathlib.Core.Path.{_≡_, refl, ap, _∙_}

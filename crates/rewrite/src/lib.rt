@@ -1,7 +1,7 @@
-// A readable column file, of either edition and of any kinds, is rewritten as the writer would write its rows (document 02, Item
-// 11). Beside the file and the output there is room for one block of values, and for the candidates of one block: each block is laid
-// down from the file, and then measured or written. The new file's length is known before the first byte is written, so a refused
-// call writes nothing. For that each block is laid down twice behind the check.
+// A readable column file, of either edition and of any kinds, is rewritten as the writer would write its rows (document
+// 02, Item 11). Beside the file and the output there is room for one block of values, and for the candidates of one
+// block: each block is laid down from the file, and then measured or written. The new file's length is known before the
+// first byte is written, so a refused call writes nothing. For that each block is laid down twice behind the check.
 use candidates::entry_for;
 use candidates::lay_block;
 use contents::FileAnswer;
@@ -84,7 +84,11 @@ fn lay_file(file: &[u8], output: &mut [u8])
 fn lay_blocks(file: &[u8], output: &mut [u8])
     requires { ⌜ FileTaken (now file) ⌝ }
     requires { ⌜ length (newFile (now file)) ≤ length (now output) ⌝ }
-    ensures { λ _. ⌜ now (output .exit) ≡ over 4 (entriesFor (rowsOf (now (file .entry))) (countIn (now (file .entry))) ++ bodiesFor (rowsOf (now (file .entry))) (countIn (now (file .entry)))) (now (output .entry)) ⌝ }
+    ensures { λ _. ⌜
+        now (output .exit)
+        ≡ over 4 (entriesFor (rowsOf (now (file .entry))) (countIn (now (file .entry))) ++ bodiesFor
+        (rowsOf (now (file .entry))) (countIn (now (file .entry)))) (now (output .entry))
+        ⌝ }
 {
     let n = count(file);
     let mut at = 4 + n * 32;
@@ -96,15 +100,22 @@ fn lay_blocks(file: &[u8], output: &mut [u8])
     }
 }
 
-// Writes the new body of block i, whose old one begins at `from`, from place `at` on, and its entry with its range, and gives
-// the length of the new body. There is room, so the body is not refused.
+// Writes the new body of block i, whose old one begins at `from`, from place `at` on, and its entry with its range, and
+// gives the length of the new body. There is room, so the body is not refused.
 fn lay_one(file: &[u8], i: usize, from: usize, at: usize, output: &mut [u8]) -> usize
     requires { ⌜ FileTaken (now file) ⌝ }
     requires { ⌜ i < countIn (now file) ⌝ }
     requires { ⌜ from ≡ bodyStart (now file) i ⌝ }
-    requires { ⌜ (contentsSize 2 (i + 1) ≤ at) × (at + chosen (blockIn (now file) i) .entry .length ≤ length (now output)) ⌝ }
+    requires { ⌜
+        (contentsSize 2 (i + 1) ≤ at) × (at + chosen (blockIn (now file) i) .entry .length ≤ length (now output))
+        ⌝ }
     ensures { λ r. ⌜ r ≡ chosen (blockIn (now (file .entry)) i) .entry .length ⌝ }
-    ensures { λ _. ⌜ now (output .exit) ≡ over (contentsSize 2 i) (entryBytes (chosen (blockIn (now (file .entry)) i) .entry) (trueRange (blockIn (now (file .entry)) i))) (over at (bodyFor (blockIn (now (file .entry)) i)) (now (output .entry))) ⌝ }
+    ensures { λ _. ⌜
+        now (output .exit)
+        ≡ over (contentsSize 2 i)
+        (entryBytes (chosen (blockIn (now (file .entry)) i) .entry) (trueRange (blockIn (now (file .entry)) i)))
+        (over at (bodyFor (blockIn (now (file .entry)) i)) (now (output .entry)))
+        ⌝ }
 {
     let mut block = [0u64; 1024];
     block_from(file, i, from, &mut block);

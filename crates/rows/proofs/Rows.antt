@@ -1,4 +1,5 @@
--- What the row operations give of rows that are given by rules, and what wrapping subtraction gives, over the element size.
+-- What the row operations give of rows that are given by rules, and what wrapping subtraction gives, over the element
+-- size.
 -- Assumes nothing.
 use mathlib.Core.Path.{_≡_, sym, ap, ap₂, _∙_}
 use mathlib.Core.List.{List}

@@ -1,5 +1,6 @@
--- The operations on a row: LANES values that stand side by side in a block, as one value. Each has its plain arithmetical meaning, place by place,
--- for every row of elements, that is of numbers below 2^t. A shift or a width is taken modulo t, so that every number has a meaning.
+-- The operations on a row: LANES values that stand side by side in a block, as one value. Each has its plain
+-- arithmetical meaning, place by place, for every row of elements, that is of numbers below 2^t. A shift or a width is
+-- taken modulo t, so that every number has a meaning.
 -- Assumes nothing.
 use mathlib.Core.List.{List}
 use Prim.Native.Nat.{ℕ, _*_, _/_, _%_, _^_}
@@ -27,7 +28,8 @@ storeOf out x = pick (leb (length x) (length out)) (over 0 x out) out
 unfoldable pub shrOf : (t : ℕ) (x : List ℕ) (s : ℕ) → List ℕ
 shrOf t x s = tab (lanes t) (λ l. getD x l 0 / 2 ^ (s % t))
 
--- `or_shl` gives each value of x, with those bits set too that the value of y in the same lane, times 2^(s mod t), has below 2^t.
+-- `or_shl` gives each value of x, with those bits set too that the value of y in the same lane, times 2^(s mod t), has
+-- below 2^t.
 unfoldable pub orShlOf : (t : ℕ) (x y : List ℕ) (s : ℕ) → List ℕ
 orShlOf t x y s = tab (lanes t) (λ l. bitOr (getD x l 0) (getD y l 0 * 2 ^ (s % t) % 2 ^ t))
 

@@ -13,8 +13,14 @@ ghost use Rattle.runs.specs.Runs.{decodeOf};
 
 // Puts at each place the dictionary's value at the place's index. The dictionary may have any length.
 pub fn decode(dictionary: &[u32], indices: &[u16], output: &mut [u32]) -> Answer
-    ensures { λ r. ⌜ r ≡ answerFor (decodeTakes (now (dictionary .entry)) (now (indices .entry)) (now (output .entry))) ⌝ }
-    ensures { λ _. ⌜ now (output .exit) ≡ decodeLeaves (now (dictionary .entry)) (now (indices .entry)) (now (output .entry)) ⌝ }
+    ensures { λ r. ⌜
+        r
+        ≡ answerFor (decodeTakes (now (dictionary .entry)) (now (indices .entry)) (now (output .entry)))
+        ⌝ }
+    ensures { λ _. ⌜
+        now (output .exit)
+        ≡ decodeLeaves (now (dictionary .entry)) (now (indices .entry)) (now (output .entry))
+        ⌝ }
 {
     if indices.len() != 1024 {
         return Answer::Block;
@@ -30,7 +36,8 @@ pub fn decode(dictionary: &[u32], indices: &[u16], output: &mut [u32]) -> Answer
     Answer::Done
 }
 
-// The whole output, where no index is at or beyond the dictionary's length: eight places at a time, for which the compiler needs one turn of the loop.
+// The whole output, where no index is at or beyond the dictionary's length: eight places at a time, for which the
+// compiler needs one turn of the loop.
 fn look_up(dictionary: &[u32], indices: &[u16], output: &mut [u32])
     requires { ⌜ highestOf (now indices) < length (now dictionary) ⌝ }
     requires { ⌜ length (now indices) ≡ 1024 ⌝ }

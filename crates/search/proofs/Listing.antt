@@ -1,4 +1,5 @@
--- The laws behind the loops that count the numbers that pass a test, and behind those that list them: one number more, and a run more.
+-- The laws behind the loops that count the numbers that pass a test, and behind those that list them: one number more,
+-- and a run more.
 -- Assumes nothing.
 use mathlib.Core.Bool.{Bool, true, false}
 use mathlib.Core.List.{List, [], _∷_, _++_, append-nil}

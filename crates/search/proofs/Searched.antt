@@ -1,5 +1,6 @@
--- The contents of a file, then its opened bodies in their order, and then the rows of the opened blocks one after another give what the search of the file
--- gives: number, place, how many rows and blocks, and the rows. A program that holds no more than the front of the file and one body so gets the same answer.
+-- The contents of a file, then its opened bodies in their order, and then the rows of the opened blocks one after
+-- another give what the search of the file gives: number, place, how many rows and blocks, and the rows. A program that
+-- holds no more than the front of the file and one body so gets the same answer.
 -- Assumes nothing.
 use mathlib.Core.Bool.{Bool, true, false}
 use mathlib.Core.List.{List, [], _∷_, _++_, append-nil}
@@ -35,7 +36,8 @@ use Rattle.search.specs.Steps.{opensBy, rowsIn, rowsAfter, rowsBy, answe
 use Rattle.search.proofs.Answers.{search-refused, contents-first, given-refused}
 use Rattle.search.proofs.Walks.{foundTo, front-opens, found-open, found-shut, found-all}
 
--- One opened body more: the answer is that of laying its block down, and behind it that of the range of the block that was laid down.
+-- One opened body more: the answer is that of laying its block down, and behind it that of the range of the block that
+-- was laid down.
 pub stepped : (front : List ℕ) (i : ℕ) (body block : List ℕ) → length block ≡ 1024 → stepOf Done front i body
     ≡ left (fileAnswer (heldTests front i body block)) (fileAnswer (rangeTests front i (heldLeaves front i body block))) (fileAnswer (heldTests front i body block))
 unfolding heldLeaves

@@ -1,5 +1,5 @@
--- A block that is not opened cannot change the answer: two files that differ only in the bodies of such blocks give the same answer and leave the
--- same rows.
+-- A block that is not opened cannot change the answer: two files that differ only in the bodies of such blocks give the
+-- same answer and leave the same rows.
 -- Assumes nothing.
 use mathlib.Core.Bool.{Bool, true, false}
 use mathlib.Core.List.{List, [], _∷_, _++_}

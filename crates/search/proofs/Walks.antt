@@ -1,4 +1,5 @@
--- The laws behind the walks over the blocks: what the opened blocks are known to be, and the rows that are found up to a block.
+-- The laws behind the walks over the blocks: what the opened blocks are known to be, and the rows that are found up to
+-- a block.
 -- Assumes nothing.
 use mathlib.Core.Bool.{Bool, true, false}
 use mathlib.Core.List.{List, _++_, append-nil}

@@ -1,5 +1,5 @@
--- The search of a column file by value (document 02, Item 9): which blocks are opened, which rows are listed, and what the call answers and
--- leaves. `l` is the file, and `low` and `high` are the bounds, both included.
+-- The search of a column file by value (document 02, Item 9): which blocks are opened, which rows are listed, and what
+-- the call answers and leaves. `l` is the file, and `low` and `high` are the bounds, both included.
 -- Assumes nothing.
 use mathlib.Core.Bool.{Bool, true}
 use mathlib.Core.List.{List, [], _∷_, _++_}
@@ -24,7 +24,8 @@ use Rattle.search.specs.declared.Found.the-variants.{Rows, Refused}
 abbrev pub between : (low high v : ℕ) → Bool
 between low high v = both (leb low v) (leb v high)
 
--- This test says that a range and the bounds have a number in common: the higher of the two lower ends is not above the lower of the two upper ends.
+-- This test says that a range and the bounds have a number in common: the higher of the two lower ends is not above the
+-- lower of the two upper ends.
 unfoldable pub meets : (r : Range) (low high : ℕ) → Bool
 meets r low high = leb (max (r .smallest) low) (min (r .largest) high)
 
@@ -59,7 +60,8 @@ openedTests l low high =
     ∷ (eqb (badRangeIn l low high) (count l), FalseRange (badRangeIn l low high))
     ∷ []
 
--- The search makes the tests of the contents as the reader does, then those of the blocks that it opens, and then wants room for the rows.
+-- The search makes the tests of the contents as the reader does, then those of the blocks that it opens, and then wants
+-- room for the rows.
 abbrev pub searchTests : (l : List ℕ) (low high : ℕ) (rows : List ℕ) → List FileTest
 searchTests l low high rows =
     contentsTests l (length l) ++ (openedTests l low high ++ ((leb (length (found l low high)) (length rows), Room) ∷ []))

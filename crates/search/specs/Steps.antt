@@ -1,5 +1,6 @@
--- The search of a file body by body (document 02, Item 9), for a program that holds the contents of the file and one body at a time: which bodies it
--- reads, the rows of one block, and what the contents and these bodies in their order give. That this is what the search of the file gives is a theorem.
+-- The search of a file body by body (document 02, Item 9), for a program that holds the contents of the file and one
+-- body at a time: which bodies it reads, the rows of one block, and what the contents and these bodies in their order
+-- give. That this is what the search of the file gives is a theorem.
 --
 -- `front` is the front of the file, which has the contents, and `low` and `high` are the bounds, both included.
 -- Assumes nothing.
@@ -22,8 +23,8 @@ use Rattle.search.specs.declared.Found.{Found}
 use Rattle.search.specs.declared.Found.the-variants.{Rows, Refused}
 use Rattle.search.specs.Search.{between, meets}
 
--- By the contents alone block i is opened where the range that its entry says and the bounds have a number in common, or the edition is 1. Where the
--- entry is not there, its range is every number.
+-- By the contents alone block i is opened where the range that its entry says and the bounds have a number in common,
+-- or the edition is 1. Where the entry is not there, its range is every number.
 unfoldable pub opensBy : (front : List ℕ) (low high i : ℕ) → Bool
 opensBy front low high i = either (eqb (editionOr front) 1) (meets (rangeOr front i) low high)
 
@@ -39,7 +40,8 @@ foundIn block first low high = passing first (length block) (inBlock block first
 abbrev pub rowsIn : (block : List ℕ) (i low high : ℕ) → List ℕ
 rowsIn block i low high = foundIn block (i * 1024) low high
 
--- The rows of one block are listed where it is 1,024 long, it has a number that a block of a file can have, and there is room for them.
+-- The rows of one block are listed where it is 1,024 long, it has a number that a block of a file can have, and there
+-- is room for them.
 abbrev pub listedTests : (block : List ℕ) (i low high : ℕ) (rows : List ℕ) → List FileTest
 listedTests block i low high rows =
     (long 1024 block, Block)
@@ -68,8 +70,8 @@ rowsAfter front bodies low high (suc n) =
 abbrev pub rowsBy : (front : List ℕ) (bodies : ℕ → List ℕ) (low high : ℕ) → List ℕ
 rowsBy front bodies low high = rowsAfter front bodies low high (countOr front)
 
--- The answer to a file of `size` bytes is that to its contents and then to the opened bodies, one after another. Where these are right, there has to
--- be room for the rows.
+-- The answer to a file of `size` bytes is that to its contents and then to the opened bodies, one after another. Where
+-- these are right, there has to be room for the rows.
 unfoldable pub answerBy : (front : List ℕ) (size : ℕ) (bodies : ℕ → List ℕ) (low high : ℕ) (rows : List ℕ) → FileAnswer
 answerBy front size bodies low high rows =
     left (chosenAfter (opensBy front low high) front size bodies (countOr front))

@@ -1,12 +1,13 @@
-// The search of a column file by value (document 02, Item 9): it lists, rising, the rows whose value lies between two bounds,
-// both included. A block is opened exactly when the range that its entry says and the bounds have a number in common, or the
-// edition is 1; of a block that is not opened no byte of the body is read.
+// The search of a column file by value (document 02, Item 9): it lists, rising, the rows whose value lies between two
+// bounds, both included. A block is opened exactly when the range that its entry says and the bounds have a number in
+// common, or the edition is 1; of a block that is not opened no byte of the body is read.
 //
-// Whether there is room is known before the first row is written, so a refused search writes nothing. Where the room would do
-// for every row of the opened blocks, nothing is counted for that, and each of them is laid down once for its rows.
+// Whether there is room is known before the first row is written, so a refused search writes nothing. Where the room
+// would do for every row of the opened blocks, nothing is counted for that, and each of them is laid down once for its
+// rows.
 //
-// A program that does not hold the file makes the same search by steps: `opens` says by the contents which bodies to read, and
-// `rows_in` lists the rows of one block.
+// A program that does not hold the file makes the same search by steps: `opens` says by the contents which bodies to
+// read, and `rows_in` lists the rows of one block.
 use contents::FileAnswer;
 use contents::Range;
 use contents::count;
@@ -106,8 +107,9 @@ fn lies(v: u64, low: u64, high: u64) -> bool
     (low <= v) & (v <= high)
 }
 
-// Whether block i is opened, by the contents alone: a program that holds no more of the file reads the bodies of these blocks, and
-// of no other. An entry that is not there says no range, so its block is opened where the bounds have a number between them.
+// Whether block i is opened, by the contents alone: a program that holds no more of the file reads the bodies of these
+// blocks, and of no other. An entry that is not there says no range, so its block is opened where the bounds have a
+// number between them.
 pub fn opens(front: &[u8], i: usize, low: u64, high: u64) -> bool
     ensures { λ r. ⌜ r ≡ opensBy (now (front .entry)) low high i ⌝ }
 {
@@ -135,8 +137,8 @@ fn count_opened(file: &[u8], low: u64, high: u64) -> usize
     k
 }
 
-// Checks the blocks that are opened, in a file whose contents are right: the run indices of all, and then the ranges. A file of
-// edition 1 says no ranges.
+// Checks the blocks that are opened, in a file whose contents are right: the run indices of all, and then the ranges. A
+// file of edition 1 says no ranges.
 fn check_opened(file: &[u8], low: u64, high: u64) -> FileAnswer
     requires { ⌜ ContentsTaken (now file) ⌝ }
     ensures { λ r. ⌜ r ≡ fileAnswer (openedTests (now (file .entry)) low high) ⌝ }
@@ -156,8 +158,8 @@ fn check_opened(file: &[u8], low: u64, high: u64) -> FileAnswer
     FileAnswer::Done
 }
 
-// The lowest opened block that is not as asked, and the count where there is none, in a file whose contents are right. The ranges
-// are asked for in edition 2, where the opened blocks have their run indices in range.
+// The lowest opened block that is not as asked, and the count where there is none, in a file whose contents are right.
+// The ranges are asked for in edition 2, where the opened blocks have their run indices in range.
 fn lowest_bad(file: &[u8], low: u64, high: u64, ranges: bool) -> usize
     requires { ⌜ ContentsTaken (now file) ⌝ }
     requires { ⌜ (ranges ≡ true → (editionIn (now file) ≡ 2) × (badIn (now file) low high false ≡ countIn (now file))) ⌝ }
@@ -177,7 +179,8 @@ fn lowest_bad(file: &[u8], low: u64, high: u64, ranges: bool) -> usize
     n
 }
 
-// Whether block i, whose body begins at `at`, is as asked: has the range that its entry says, or its run indices in range.
+// Whether block i, whose body begins at `at`, is as asked: has the range that its entry says, or its run indices in
+// range.
 fn is_as_asked(file: &[u8], i: usize, at: usize, ranges: bool) -> bool
     requires { ⌜ ContentsTaken (now file) ⌝ }
     requires { ⌜ i < countIn (now file) ⌝ }
@@ -191,7 +194,8 @@ fn is_as_asked(file: &[u8], i: usize, at: usize, ranges: bool) -> bool
     is_good_from(file, i, at)
 }
 
-// Whether there is room for the rows. The k opened blocks have at most 1,024 rows each, and where that many fit nothing is counted.
+// Whether there is room for the rows. The k opened blocks have at most 1,024 rows each, and where that many fit nothing
+// is counted.
 fn has_room(file: &[u8], low: u64, high: u64, k: usize, room: usize) -> bool
     requires { ⌜ ContentsTaken (now file) ⌝ }
     requires { ⌜ badIn (now file) low high false ≡ countIn (now file) ⌝ }
@@ -244,9 +248,9 @@ fn list_rows(file: &[u8], low: u64, high: u64, rows: &mut [u64]) -> usize
     k
 }
 
-// Lists the rows of block i, which was laid down, whose value lies between the bounds: for a program that does not hold the file, and
-// has the block from bodywise. No file has block 256 or a higher one, so such a number is refused. The answer is how many rows
-// they are, and one opened block: these add up to the answer of the search.
+// Lists the rows of block i, which was laid down, whose value lies between the bounds: for a program that does not hold
+// the file, and has the block from bodywise. No file has block 256 or a higher one, so such a number is refused. The
+// answer is how many rows they are, and one opened block: these add up to the answer of the search.
 pub fn rows_in(block: &[u64], i: usize, low: u64, high: u64, rows: &mut [u64]) -> Found
     ensures { λ r. ⌜ r ≡ listedOf (now (block .entry)) i low high (now (rows .entry)) ⌝ }
     ensures { λ _. ⌜ now (rows .exit) ≡ listedLeaves (now (block .entry)) i low high (now (rows .entry)) ⌝ }
@@ -303,7 +307,8 @@ fn count_block(block: &[u64], low: u64, high: u64) -> usize
     k
 }
 
-// Lists the rows that are found in block i, whose body begins at `at`, from place k of the room on, and gives the place behind them.
+// Lists the rows that are found in block i, whose body begins at `at`, from place k of the room on, and gives the place
+// behind them.
 fn list_from(
     file: &[u8],
     i: usize,
@@ -319,7 +324,10 @@ fn list_from(
     requires { ⌜ asked (now file) false i ≡ true ⌝ }
     requires { ⌜ k + length (foundIn (blockIn (now file) i) (i * 1024) low high) ≤ length (now rows) ⌝ }
     ensures { λ r. ⌜ r ≡ k + length (foundIn (blockIn (now (file .entry)) i) (i * 1024) low high) ⌝ }
-    ensures { λ _. ⌜ now (rows .exit) ≡ over k (foundIn (blockIn (now (file .entry)) i) (i * 1024) low high) (now (rows .entry)) ⌝ }
+    ensures { λ _. ⌜
+        now (rows .exit)
+        ≡ over k (foundIn (blockIn (now (file .entry)) i) (i * 1024) low high) (now (rows .entry))
+        ⌝ }
 {
     let mut block = [0u64; 1024];
     block_from(file, i, at, &mut block);

@@ -57,7 +57,8 @@ module _ (head : Head) where
         left,
       )
 
-  -- Where c is the only buffer that a call writes, a case is the same exactly where it is as expected, by a test of c that is exact.
+  -- Where c is the only buffer that a call writes, a case is the same exactly where it is as expected, by a test of c
+  -- that is exact.
   pub judged : (reply : Reply) (c c′ : List ℕ) {step : Step} {buffers : Bool} {long long′ : Type 0}
       → step ≡ stepOf head reply buffers
       → Exactly buffers long long′ (Agree (head .«n_c») c c′)

@@ -1,6 +1,6 @@
 // What the programs that replay a case stream have in common: the head of a record, whether a call gave back what is
-// expected, and the counts of a run. The format of a stream is docs/CASES.md. Reading and printing stand in the programs,
-// since no contract can say what is read or printed.
+// expected, and the counts of a run. The format of a stream is docs/CASES.md. Reading and printing stand in the
+// programs, since no contract can say what is read or printed.
 pub mod elements;
 pub mod narrow;
 
@@ -63,8 +63,8 @@ fn byte(x: u8) -> u64
     x as u64
 }
 
-// What a call gave back besides the buffers. The reference and the index are fields that are expected of some calls and that
-// others take: of a call that takes one the reply has it as it was given.
+// What a call gave back besides the buffers. The reference and the index are fields that are expected of some calls and
+// that others take: of a call that takes one the reply has it as it was given.
 pub enum Reply {
     // nothing, since there is no such call
     Unknown,
@@ -153,7 +153,8 @@ pub enum Step {
     Differs(Head),
 }
 
-// What comes of the case with this head, from what its call gave back, and from whether the buffers were left as expected.
+// What comes of the case with this head, from what its call gave back, and from whether the buffers were left as
+// expected.
 pub fn judge(head: Head, reply: Reply, buffers: bool) -> Step
     ensures { λ r. ⌜ r ≡ stepOf head reply buffers ⌝ }
 {
@@ -178,8 +179,14 @@ pub fn judge(head: Head, reply: Reply, buffers: bool) -> Step
 
 // Whether the first n numbers of both lists are the same; no, where there are not so many.
 pub fn same_numbers(x: &[u64], y: &[u64], n: usize) -> bool
-    ensures { λ r. ⌜ (r ≡ true → (n ≤ length (now (x .entry))) × (n ≤ length (now (y .entry))) × Agree n (now (x .entry)) (now (y .entry))) ⌝ }
-    ensures { λ r. ⌜ (n ≤ length (now (x .entry)) → n ≤ length (now (y .entry)) → Agree n (now (x .entry)) (now (y .entry)) → r ≡ true) ⌝ }
+    ensures { λ r. ⌜
+        (r ≡ true → (n ≤ length (now (x .entry))) × (n ≤ length (now (y .entry))) × Agree n (now (x .entry))
+        (now (y .entry)))
+        ⌝ }
+    ensures { λ r. ⌜
+        (n ≤ length (now (x .entry)) → n ≤ length (now (y .entry)) → Agree n (now (x .entry)) (now (y .entry)) → r ≡
+        true)
+        ⌝ }
 {
     if x.len() < n {
         return false;
@@ -197,11 +204,17 @@ pub fn same_numbers(x: &[u64], y: &[u64], n: usize) -> bool
     true
 }
 
-// Whether the first n numbers are those of eight bytes each that stand from the front of the bytes on; no, where there are
-// not so many.
+// Whether the first n numbers are those of eight bytes each that stand from the front of the bytes on; no, where there
+// are not so many.
 pub fn same_words(words: &[u64], bytes: &[u8], n: usize) -> bool
-    ensures { λ r. ⌜ (r ≡ true → (n ≤ length (now (words .entry))) × (8 * n ≤ length (now (bytes .entry))) × Agree n (now (words .entry)) (numbersOf 8 (now (bytes .entry)) n)) ⌝ }
-    ensures { λ r. ⌜ (n ≤ length (now (words .entry)) → 8 * n ≤ length (now (bytes .entry)) → Agree n (now (words .entry)) (numbersOf 8 (now (bytes .entry)) n) → r ≡ true) ⌝ }
+    ensures { λ r. ⌜
+        (r ≡ true → (n ≤ length (now (words .entry))) × (8 * n ≤ length (now (bytes .entry))) × Agree n
+        (now (words .entry)) (numbersOf 8 (now (bytes .entry)) n))
+        ⌝ }
+    ensures { λ r. ⌜
+        (n ≤ length (now (words .entry)) → 8 * n ≤ length (now (bytes .entry)) → Agree n (now (words .entry))
+        (numbersOf 8 (now (bytes .entry)) n) → r ≡ true)
+        ⌝ }
 {
     if words.len() < n {
         return false;
@@ -221,8 +234,14 @@ pub fn same_words(words: &[u64], bytes: &[u8], n: usize) -> bool
 
 // Whether the first n bytes of both lists are the same; no, where there are not so many.
 pub fn same_bytes(one: &[u8], other: &[u8], n: usize) -> bool
-    ensures { λ r. ⌜ (r ≡ true → (n ≤ length (now (one .entry))) × (n ≤ length (now (other .entry))) × Agree n (now (one .entry)) (now (other .entry))) ⌝ }
-    ensures { λ r. ⌜ (n ≤ length (now (one .entry)) → n ≤ length (now (other .entry)) → Agree n (now (one .entry)) (now (other .entry)) → r ≡ true) ⌝ }
+    ensures { λ r. ⌜
+        (r ≡ true → (n ≤ length (now (one .entry))) × (n ≤ length (now (other .entry))) × Agree n (now (one .entry))
+        (now (other .entry)))
+        ⌝ }
+    ensures { λ r. ⌜
+        (n ≤ length (now (one .entry)) → n ≤ length (now (other .entry)) → Agree n (now (one .entry))
+        (now (other .entry)) → r ≡ true)
+        ⌝ }
 {
     if one.len() < n {
         return false;

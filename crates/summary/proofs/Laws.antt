@@ -1,5 +1,6 @@
--- What the summary of a block and the place of a row are good for: where the contents of a file say a range, it is the one that a person is shown; and
--- of the rows from a to before b block i has exactly those from the place of a to before the place of b.
+-- What the summary of a block and the place of a row are good for: where the contents of a file say a range, it is the
+-- one that a person is shown; and of the rows from a to before b block i has exactly those from the place of a to
+-- before the place of b.
 -- Assumes nothing.
 use mathlib.Core.Bool.{true}
 use mathlib.Core.List.{List}

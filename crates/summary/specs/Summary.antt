@@ -25,6 +25,7 @@ thousandthsOf bytes rows = bytes * 1000 / rows
 abbrev pub marksOf : (width : ℕ) → ℕ
 marksOf width = (width + 3) / 4
 
--- The place of block i at which a row stands: 0 where it stands in a block before it, and 1,024 where it stands in one behind it.
+-- The place of block i at which a row stands: 0 where it stands in a block before it, and 1,024 where it stands in one
+-- behind it.
 abbrev pub placeIn : (row i : ℕ) → ℕ
 placeIn row i = min (row - i * 1024) 1024

@@ -1,6 +1,6 @@
-// What is said of a block to a person (ours): its kind, width, reference and body bytes, as its entry has them, and its smallest and largest
-// value. These two are taken from the block itself, since the contents of an edition 1 file say none; in a file of edition 2 that the
-// reader accepts they are those that the entry says.
+// What is said of a block to a person (ours): its kind, width, reference and body bytes, as its entry has them, and its
+// smallest and largest value. These two are taken from the block itself, since the contents of an edition 1 file say
+// none; in a file of edition 2 that the reader accepts they are those that the entry says.
 use bodies::range_of;
 use contents::entry_or;
 ghost use mathlib.Core.Path.{_≡_};
@@ -33,8 +33,8 @@ pub fn of_block(front: &[u8], i: usize, block: &[u64]) -> Summary
     }
 }
 
-// How many thousandths of a byte a row takes, where so many rows take so many bytes: no part of a thousandth is counted. Of no rows it
-// is 0.
+// How many thousandths of a byte a row takes, where so many rows take so many bytes: no part of a thousandth is
+// counted. Of no rows it is 0.
 pub fn thousandths(bytes: u32, rows: u32) -> u64
     ensures { λ r. ⌜ r ≡ thousandthsOf bytes rows ⌝ }
 {
@@ -51,8 +51,8 @@ pub fn marks(width: u8) -> usize
     (width as usize + 3) / 4
 }
 
-// The place of block i at which a row stands: 0 where it stands in a block before it, and 1,024 where it stands in one behind it. So of the
-// rows from a to before b block i has those from the place of a to before the place of b.
+// The place of block i at which a row stands: 0 where it stands in a block before it, and 1,024 where it stands in one
+// behind it. So of the rows from a to before b block i has those from the place of a to before the place of b.
 pub fn place_in(row: u64, i: usize) -> usize
     ensures { λ r. ⌜ r ≡ placeIn row i ⌝ }
 {

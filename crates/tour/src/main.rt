@@ -1,6 +1,7 @@
-// A tour in a screenful, for a person: a block is packed, a row is looked up, two calls are refused, a budget is kept, a width does damage that is too
-// narrow for its numbers, dates are transposed before their differences are taken, and a column file is written and read. The program reads nothing. What it must write stands in
-// crates/tour/stdout, worked out by hand from documents 01 and 02.
+// A tour in a screenful, for a person: a block is packed, a row is looked up, two calls are refused, a budget is kept,
+// a width does damage that is too narrow for its numbers, dates are transposed before their differences are taken, and
+// a column file is written and read. The program reads nothing. What it must write stands in crates/tour/stdout, worked
+// out by hand from documents 01 and 02.
 use access::t8::Single;
 use contents::FileAnswer;
 use files::Row;
@@ -20,7 +21,8 @@ fn main() {
     show_file();
 }
 
-// The block in which each value is the number of its row: a block of u8 values has 128 lanes, so each 128 places are a row.
+// The block in which each value is the number of its row: a block of u8 values has 128 lanes, so each 128 places are a
+// row.
 fn each_its_row() -> [u8; 1024] {
     let mut rows = [0u8; 1024];
     for i in 0..1024 {
@@ -166,8 +168,8 @@ fn differences(dates: &[u16; 1024]) -> [u16; 1024] {
     numbers
 }
 
-// A column file of one block. Of the three ways to write it the frame is the shortest: the numbers are at most 2 above the
-// smallest, so its width is 2 and its body 256 bytes, behind the 20 bytes of the contents.
+// A column file of one block. Of the three ways to write it the frame is the shortest: the numbers are at most 2 above
+// the smallest, so its width is 2 and its body 256 bytes, behind the 20 bytes of the contents.
 fn show_file() {
     let mut values = sevens();
     values[3] = 9;

@@ -1,5 +1,5 @@
--- The laws of fronts of lists: a front that is shorter or as long as the list, a front of two lists, and what stands at the front of a list that was
--- written over.
+-- The laws of fronts of lists: a front that is shorter or as long as the list, a front of two lists, and what stands at
+-- the front of a list that was written over.
 -- Assumes nothing.
 use mathlib.Core.List.{List, _++_, append-nil}
 use mathlib.Core.Path.{_≡_, sym, ap, _∙_}

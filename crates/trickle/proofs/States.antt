@@ -1,5 +1,5 @@
--- What a state counts as: itself, or the state of a refused start; in either case one with a width of at most 64, and with no more bytes held than the body
--- of that width has.
+-- What a state counts as: itself, or the state of a refused start; in either case one with a width of at most 64, and
+-- with no more bytes held than the body of that width has.
 -- Assumes nothing.
 use mathlib.Core.Bool.{Bool, true, false}
 use mathlib.Core.Path.{_≡_, refl, sym, ap, subst}

@@ -1,7 +1,8 @@
--- The theorems of document 02's Item 10, said of what the calls give and leave: the cuts make no difference; a full state takes no more; when the body is
--- full, ask gives what unpack gives; the bytes past those held play no part; feed and ask go by what a state counts as; when each number is given; and a
--- state that cannot be is answered as that of a refused start. The room of a state has 8,192 bytes; the laws ask for this where they need it, and of a
--- state in a program the prover knows it.
+-- The theorems of document 02's Item 10, said of what the calls give and leave: the cuts make no difference; a full
+-- state takes no more; when the body is full, ask gives what unpack gives; the bytes past those held play no part; feed
+-- and ask go by what a state counts as; when each number is given; and a state that cannot be is answered as that of a
+-- refused start. The room of a state has 8,192 bytes; the laws ask for this where they need it, and of a state in a
+-- program the prover knows it.
 -- Assumes nothing.
 use mathlib.Core.Bool.{false}
 use mathlib.Core.List.{List, [], _++_}
@@ -35,8 +36,8 @@ use Rattle.trickle.proofs.States.{counted, length-held, itself, counts-
 
 -- ---- the cuts make no difference
 
--- Two lists of chunks that are the same bytes cut in two ways: from one state they come to the same state, to the last byte of its room, and take the
--- same number of bytes in all.
+-- Two lists of chunks that are the same bytes cut in two ways: from one state they come to the same state, to the last
+-- byte of its room, and take the same number of bytes in all.
 module _ (s : State) (long : length (s .room) ≡ 8192) (xs ys : List (List ℕ)) (same : bytesOfAll xs ≡ bytesOfAll ys) where
   pub cuts-state : countsAs (fedAll s xs .state) ≡ countsAs (fedAll s ys .state)
   cuts-state = all-after s long xs ∙ ap (stateAfter s) same ∙ sym (all-after s long ys)
@@ -49,7 +50,8 @@ counts-held : (s : State) → heldOf (countsAs s) ≡ heldOf s
 unfolding heldOf
 counts-held s = ap (λ c. take (c .held) (c .room)) (counts-twice s)
 
--- However they are cut, the bytes held after all chunks are those held before with all the bytes behind them, up to the length of the body.
+-- However they are cut, the bytes held after all chunks are those held before with all the bytes behind them, up to the
+-- length of the body.
 pub all-held : (s : State) → length (s .room) ≡ 8192 → (chunks : List (List ℕ))
     → (widthOf (fedAll s chunks .state) ≡ widthOf s) × (heldOf (fedAll s chunks .state) ≡ take (bodySize (widthOf s)) (heldOf s ++ bytesOfAll chunks))
 all-held s long chunks =
@@ -81,7 +83,8 @@ length-words : (s : State) → length (wordsOf s) ≡ lanes t64 * widthOf s
 unfolding wordsOf
 length-words s = length-numbers 8 (heldOf s) (lanes t64 * widthOf s)
 
--- When the bytes of the body are all there, ask answers as unpack does on the body's words, and leaves what unpack leaves.
+-- When the bytes of the body are all there, ask answers as unpack does on the body's words, and leaves what unpack
+-- leaves.
 module _ (s : State) (full : countOf s ≡ bodySize (widthOf s)) (output : List ℕ) where
   pub full-answer : numberOf (askAnswer s output) ≡ numberIn (answerFor (packTakes t64 (widthOf s) output (wordsOf s)))
   full-answer =
@@ -111,7 +114,8 @@ ask-refused s output n = left-refused (askAnswer s output) (valuesOf s) output n
 
 -- ---- the bytes past those held play no part
 
--- Two states that hold the same, whatever stands behind it in their rooms, are answered the same: by feed, which leaves them holding the same,
+-- Two states that hold the same, whatever stands behind it in their rooms, are answered the same: by feed, which leaves
+-- them holding the same,
 module _ (a b : State) (la : length (a .room) ≡ 8192) (lb : length (b .room) ≡ 8192) (same : Same a b) where
   same-count : countOf a ≡ countOf b
   same-count = sym (length-held a la) ∙ ap length (same .bytes) ∙ length-held b lb
@@ -237,7 +241,8 @@ module _ (s : State) (output : List ℕ) where
 
 -- ---- a state that cannot be
 
--- A state handed in with a width above 64, or with more bytes held than its body has, counts as the state of a refused start,
+-- A state handed in with a width above 64, or with more bytes held than its body has, counts as the state of a refused
+-- start,
 module _ (s : State) (bad : (64 < s .width) ⊎ (128 * s .width < s .held)) (w : ℕ) (refused : 64 < w) where
   pub bad-counts : countsAs s ≡ startedOf w .state
   bad-counts =

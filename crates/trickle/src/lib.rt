@@ -1,8 +1,8 @@
-// A packed u64 body that comes in chunks (document 02, Item 10): chunks of any length are fed to a state, and when the bytes of
-// the body are all there, the state is asked for the values.
+// A packed u64 body that comes in chunks (document 02, Item 10): chunks of any length are fed to a state, and when the
+// bytes of the body are all there, the state is asked for the values.
 //
-// A state is a struct with public fields, so that one may be handed in that no start gave. One that cannot be the state of a body
-// counts as the state that a refused start gives, and feed and ask go by the state that counts.
+// A state is a struct with public fields, so that one may be handed in that no start gave. One that cannot be the state
+// of a body counts as the state that a refused start gives, and feed and ask go by the state that counts.
 use little::read_words;
 use packing::t64::unpack;
 ghost use mathlib.Core.Path.{_≡_};
@@ -52,8 +52,8 @@ impl TrickleAnswer {
     }
 }
 
-// A body on its way: its width, how many bytes of it are held, and room for the longest body. The bytes held stand at the front of
-// the room, and what stands behind them plays no part.
+// A body on its way: its width, how many bytes of it are held, and room for the longest body. The bytes held stand at
+// the front of the room, and what stands behind them plays no part.
 pub struct State {
     pub width: usize,
     pub held: usize,

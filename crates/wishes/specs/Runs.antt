@@ -1,5 +1,6 @@
--- A machine that wishes for parts of two files and for writes, and what a run of it writes where every wish is granted: a read gives what the file has there,
--- and a write writes. This says what a program does that drives a machine, and is to be read beside its loop.
+-- A machine that wishes for parts of two files and for writes, and what a run of it writes where every wish is granted:
+-- a read gives what the file has there, and a write writes. This says what a program does that drives a machine, and is
+-- to be read beside its loop.
 -- Assumes nothing.
 use mathlib.Core.Bool.{Bool, true, false}
 use mathlib.Core.List.{List, [], _++_}
@@ -87,7 +88,8 @@ isWithin (Read side part at n) out = leb n (roomOf part)
 isWithin (Write n) out = leb n (length out)
 isWithin Done out = true
 
--- This is what is done with a wish, and then the run goes on: a read fills its buffer, and a write writes the front of the output.
+-- This is what is done with a wish, and then the run goes on: a read fills its buffer, and a write writes the front of
+-- the output.
 abbrev pub carriedOut : (l m : List ℕ) (wish : Wish) (h : Held) (out : List ℕ) (on : Held → Ran) → Ran
 carriedOut l m (Read side part at n) h out on = on (filled h side part (partAt (fileOn side l m) at n))
 carriedOut l m (Write n) h out on = before (take n out) (on h)

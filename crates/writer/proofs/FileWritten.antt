@@ -1,6 +1,6 @@
--- Document 02, Items 3 and 9, of the call: each number exactly when the document gives it, a refused call leaves the output as it was, and a call that
--- is done leaves the file at the front and the bytes behind it. The file is one that the reader accepts, and its rows are the numbers: so say the calls that
--- read one block out and one row.
+-- Document 02, Items 3 and 9, of the call: each number exactly when the document gives it, a refused call leaves the
+-- output as it was, and a call that is done leaves the file at the front and the bytes behind it. The file is one that
+-- the reader accepts, and its rows are the numbers: so say the calls that read one block out and one row.
 -- Assumes nothing.
 use mathlib.Core.List.{List, [], _∷_, _++_}
 use mathlib.Core.Logic.{_↔_}
@@ -237,7 +237,8 @@ noBlocks = 2 ∷ 0 ∷ 0 ∷ 0 ∷ []
 abbrev pub seven : List ℕ
 seven = 7 ∷ 0 ∷ 0 ∷ 0 ∷ 0 ∷ 0 ∷ 0 ∷ 0 ∷ []
 
--- One block of sevens, kind 1, width 0: 02 00 01 00, 01 00 00 00 00 00 00 00, and then 7 as the reference, the smallest and the largest.
+-- One block of sevens, kind 1, width 0: 02 00 01 00, 01 00 00 00 00 00 00 00, and then 7 as the reference, the smallest
+-- and the largest.
 abbrev pub oneOfSevens : List ℕ
 oneOfSevens = (2 ∷ 0 ∷ 1 ∷ 0 ∷ 1 ∷ 0 ∷ 0 ∷ 0 ∷ 0 ∷ 0 ∷ 0 ∷ 0 ∷ []) ++ (seven ++ (seven ++ seven))
 

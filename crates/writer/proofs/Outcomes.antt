@@ -1,5 +1,5 @@
--- What a call that lays a file down gives and leaves, by its answer: a length or a refusal, and the bytes over the front. The write and the rewrite are
--- such calls.
+-- What a call that lays a file down gives and leaves, by its answer: a length or a refusal, and the bytes over the
+-- front. The write and the rewrite are such calls.
 -- Assumes nothing.
 use mathlib.Core.List.{List}
 use mathlib.Core.Path.{_≡_, refl, ap, _∙_}

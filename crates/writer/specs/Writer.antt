@@ -1,4 +1,5 @@
--- The column file that stands for a list of numbers, and what the writer answers and leaves (document 02, Items 3 and 9).
+-- The column file that stands for a list of numbers, and what the writer answers and leaves (document 02, Items 3 and
+-- 9).
 -- Assumes nothing.
 use mathlib.Core.List.{List, [], _∷_, _++_}
 use Prim.Native.Nat.{ℕ, _/_, _%_}
@@ -24,7 +25,8 @@ blockCount values = length values / 1024
 abbrev pub blockAt : (values : List ℕ) (b : ℕ) → List ℕ
 blockAt values b = cut 1024 values b
 
--- The first n entries are those of the chosen candidate of each block, each with the block's smallest and largest number,
+-- The first n entries are those of the chosen candidate of each block, each with the block's smallest and largest
+-- number,
 unfoldable pub entriesFor : (values : List ℕ) (n : ℕ) → List ℕ
 entriesFor values n = joined n (λ b. entryBytes (chosen (blockAt values b) .entry) (trueRange (blockAt values b)))
 
@@ -32,7 +34,8 @@ entriesFor values n = joined n (λ b. entryBytes (chosen (blockAt values b) .ent
 unfoldable pub bodiesFor : (values : List ℕ) (n : ℕ) → List ℕ
 bodiesFor values n = joined n (λ b. bodyFor (blockAt values b))
 
--- This is the file of the numbers, from its first byte to its last: edition 2 and the block count, the entries, the bodies.
+-- This is the file of the numbers, from its first byte to its last: edition 2 and the block count, the entries, the
+-- bodies.
 unfoldable pub fileOf : (values : List ℕ) → List ℕ
 fileOf values = headBytes (blockCount values) ++ entriesFor values (blockCount values) ++ bodiesFor values (blockCount values)
 

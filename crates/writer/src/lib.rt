@@ -1,6 +1,6 @@
-// The column file is written (document 02, Items 3 and 9): 1,024·N numbers become an edition 2 file. Each block is laid down as
-// the crate candidates chooses, and its entry says its smallest and its largest number. The file's length is known before the
-// first byte is written, so a refused call writes nothing. For that each block is measured twice.
+// The column file is written (document 02, Items 3 and 9): 1,024·N numbers become an edition 2 file. Each block is laid
+// down as the crate candidates chooses, and its entry says its smallest and its largest number. The file's length is
+// known before the first byte is written, so a refused call writes nothing. For that each block is measured twice.
 use candidates::entry_for;
 use candidates::lay_block;
 use contents::FileAnswer;
@@ -96,7 +96,11 @@ fn lay_file(values: &[u64], output: &mut [u8])
 fn lay_blocks(values: &[u64], output: &mut [u8])
     requires { ⌜ length (now values) ≤ 262144 ⌝ }
     requires { ⌜ length (fileOf (now values)) ≤ length (now output) ⌝ }
-    ensures { λ _. ⌜ now (output .exit) ≡ over 4 (entriesFor (now (values .entry)) (blockCount (now (values .entry))) ++ bodiesFor (now (values .entry)) (blockCount (now (values .entry)))) (now (output .entry)) ⌝ }
+    ensures { λ _. ⌜
+        now (output .exit)
+        ≡ over 4 (entriesFor (now (values .entry)) (blockCount (now (values .entry))) ++ bodiesFor (now (values .entry))
+        (blockCount (now (values .entry)))) (now (output .entry))
+        ⌝ }
 {
     let n = values.len() / 1024;
     let mut at = 4 + n * 32;
@@ -107,13 +111,20 @@ fn lay_blocks(values: &[u64], output: &mut [u8])
     }
 }
 
-// Writes the body of block i from place `at` on, and its entry with its range, and gives the length of the body. There is room,
-// so the body is not refused.
+// Writes the body of block i from place `at` on, and its entry with its range, and gives the length of the body. There
+// is room, so the body is not refused.
 fn lay_one(values: &[u64], i: usize, at: usize, output: &mut [u8]) -> usize
     requires { ⌜ i < blockCount (now values) ⌝ }
-    requires { ⌜ (contentsSize 2 (i + 1) ≤ at) × (at + chosen (blockAt (now values) i) .entry .length ≤ length (now output)) ⌝ }
+    requires { ⌜
+        (contentsSize 2 (i + 1) ≤ at) × (at + chosen (blockAt (now values) i) .entry .length ≤ length (now output))
+        ⌝ }
     ensures { λ r. ⌜ r ≡ chosen (blockAt (now (values .entry)) i) .entry .length ⌝ }
-    ensures { λ _. ⌜ now (output .exit) ≡ over (contentsSize 2 i) (entryBytes (chosen (blockAt (now (values .entry)) i) .entry) (trueRange (blockAt (now (values .entry)) i))) (over at (bodyFor (blockAt (now (values .entry)) i)) (now (output .entry))) ⌝ }
+    ensures { λ _. ⌜
+        now (output .exit)
+        ≡ over (contentsSize 2 i)
+        (entryBytes (chosen (blockAt (now (values .entry)) i) .entry) (trueRange (blockAt (now (values .entry)) i)))
+        (over at (bodyFor (blockAt (now (values .entry)) i)) (now (output .entry)))
+        ⌝ }
 {
     let from = i * 1024;
     let to = from + 1024;

@@ -1,5 +1,5 @@
--- `bits::transpose_8x8` meets its contract. That each mask keeps apart what it exchanges, and that the three moves together are the 8 by 8
--- step, are tests that are computed at each of the 64 bits.
+-- `bits::transpose_8x8` meets its contract. That each mask keeps apart what it exchanges, and that the three moves
+-- together are the 8 by 8 step, are tests that are computed at each of the 64 bits.
 -- Assumes nothing.
 use mathlib.Core.Path.{ap, _∙_}
 use native.Mathlib.Omega.{arith}

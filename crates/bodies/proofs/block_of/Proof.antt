@@ -1,4 +1,5 @@
--- `bodies::block_of` meets its contract: the output, the entry and the length are tested first, and the rest is the block that is laid down.
+-- `bodies::block_of` meets its contract: the output, the entry and the length are tested first, and the rest is the
+-- block that is laid down.
 -- Assumes nothing.
 use mathlib.Core.Path.{_≡_, sym, _∙_}
 use native.Mathlib.Omega.{arith}

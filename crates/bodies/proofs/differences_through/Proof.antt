@@ -1,4 +1,5 @@
--- `bodies::differences_through` meets its contract: base and differences are read whole, and summed up they are the block.
+-- `bodies::differences_through` meets its contract: base and differences are read whole, and summed up they are the
+-- block.
 -- Assumes nothing.
 use mathlib.Core.Path.{ap₂, _∙_}
 use denote.Ref.{now}

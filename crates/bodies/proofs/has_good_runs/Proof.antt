@@ -1,4 +1,5 @@
--- `bodies::has_good_runs` meets its contract: a body of another kind has no run indices, and else the highest one is looked at.
+-- `bodies::has_good_runs` meets its contract: a body of another kind has no run indices, and else the highest one is
+-- looked at.
 -- Assumes nothing.
 use mathlib.Core.Path.{sym, ap, _∙_}
 use native.Mathlib.Omega.{arith}

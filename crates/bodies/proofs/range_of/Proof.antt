@@ -1,4 +1,5 @@
--- `bodies::range_of` meets its contract: the lowest and the highest number of the places passed, with those to come, are those of all.
+-- `bodies::range_of` meets its contract: the lowest and the highest number of the places passed, with those to come,
+-- are those of all.
 -- Assumes nothing.
 use mathlib.Core.Logic.{⊎-elim}
 use Prim.Native.Nat.{_-_}

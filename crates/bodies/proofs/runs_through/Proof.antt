@@ -1,4 +1,5 @@
--- `bodies::runs_through` meets its contract: indices and values are read whole, and decode takes them exactly when every index is in range.
+-- `bodies::runs_through` meets its contract: indices and values are read whole, and decode takes them exactly when
+-- every index is in range.
 -- Assumes nothing.
 use mathlib.Core.List.{[], _∷_}
 use mathlib.Core.Path.{ap, ap₂, _∙_}

@@ -1,4 +1,5 @@
--- `canonical::is_ours` meets its contract: the block is laid down, and the writer's entry and body for it are held to those of the file.
+-- `canonical::is_ours` meets its contract: the block is laid down, and the writer's entry and body for it are held to
+-- those of the file.
 -- Assumes nothing.
 use mathlib.Core.Path.{_≡_, sym, ap, ap₂, _∙_}
 use native.Mathlib.Omega.{arith}

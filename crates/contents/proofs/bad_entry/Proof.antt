@@ -1,4 +1,5 @@
--- `contents::bad_entry` meets its contract. The loop's invariant: every entry that was passed is right, and `at` is where the next one begins.
+-- `contents::bad_entry` meets its contract. The loop's invariant: every entry that was passed is right, and `at` is
+-- where the next one begins.
 -- Assumes nothing.
 use mathlib.Core.Bool.{true}
 use mathlib.Core.Path.{_≡_, sym, ap₂, _∙_}

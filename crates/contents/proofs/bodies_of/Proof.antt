@@ -1,5 +1,5 @@
--- `contents::bodies_of` meets its contract. The loop's invariant: the sum is that of the entries passed, each of which is below 2^32, and `at` is
--- where the next one begins.
+-- `contents::bodies_of` meets its contract. The loop's invariant: the sum is that of the entries passed, each of which
+-- is below 2^32, and `at` is where the next one begins.
 -- Assumes nothing.
 use mathlib.Core.Path.{_≡_, sym, ap, ap₂, _∙_}
 use Prim.Native.Nat.{_+_, _*_, _-_, _≤_}

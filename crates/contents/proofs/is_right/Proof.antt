@@ -1,4 +1,5 @@
--- `contents::is_right` meets its contract: in edition 2 the entry, its kind and its range are tested, and in edition 1 the entry alone.
+-- `contents::is_right` meets its contract: in edition 2 the entry, its kind and its range are tested, and in edition 1
+-- the entry alone.
 -- Assumes nothing.
 use mathlib.Core.Path.{_≡_, sym, ap, ap₂, _∙_}
 use Prim.Native.Nat.{_+_}

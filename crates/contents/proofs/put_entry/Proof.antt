@@ -1,4 +1,5 @@
--- `contents::put_entry` meets its contract: the first sixteen bytes and two numbers, one behind the other, are an entry.
+-- `contents::put_entry` meets its contract: the first sixteen bytes and two numbers, one behind the other, are an
+-- entry.
 -- Assumes nothing.
 use mathlib.Core.Path.{sym, ap, _∙_}
 use Prim.Native.Nat.{_+_}

@@ -1,4 +1,5 @@
--- `contents::put_first` meets its contract: two bytes and three numbers, one behind the other, are the first sixteen bytes of an entry.
+-- `contents::put_first` meets its contract: two bytes and three numbers, one behind the other, are the first sixteen
+-- bytes of an entry.
 -- Assumes nothing.
 use mathlib.Core.Path.{sym, ap, _∙_}
 use Prim.Native.Nat.{_+_}

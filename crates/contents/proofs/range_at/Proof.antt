@@ -1,4 +1,5 @@
--- `contents::range_at` meets its contract: field by field. The sixteen bytes are read through a part of that length, so that no read has a test.
+-- `contents::range_at` meets its contract: field by field. The sixteen bytes are read through a part of that length, so
+-- that no read has a test.
 -- Assumes nothing.
 use mathlib.Core.Path.{_∙_, ap}
 use Prim.Native.Nat.{_+_, _-_}

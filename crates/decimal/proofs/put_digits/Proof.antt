@@ -1,4 +1,5 @@
--- `decimal::put_digits` meets its contract: what is laid so far, with the text of the rest laid before it, is the text of the number.
+-- `decimal::put_digits` meets its contract: what is laid so far, with the text of the rest laid before it, is the text
+-- of the number.
 -- Assumes nothing.
 use mathlib.Core.List.{[], _∷_, _++_}
 use mathlib.Core.Path.{_≡_, refl, sym, ap, _∙_}

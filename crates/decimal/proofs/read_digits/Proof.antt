@@ -1,4 +1,5 @@
--- `decimal::read_digits` meets its contract: the number so far, with the digits to come behind it, is the number of all.
+-- `decimal::read_digits` meets its contract: the number so far, with the digits to come behind it, is the number of
+-- all.
 -- Assumes nothing.
 use mathlib.Core.Path.{_≡_, refl, sym, ap, _∙_}
 use Prim.Native.Nat.{_+_, _*_, _-_, _≤_, _<_}

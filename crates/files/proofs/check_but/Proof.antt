@@ -1,4 +1,5 @@
--- `files::check_but` meets its contract: the contents first, then the other bodies, and the body of block b only where a later one is bad.
+-- `files::check_but` meets its contract: the contents first, then the other bodies, and the body of block b only where
+-- a later one is bad.
 -- Assumes nothing.
 use mathlib.Core.List.{[], _∷_}
 use mathlib.Core.Path.{_≡_, refl, sym, ap, _∙_}

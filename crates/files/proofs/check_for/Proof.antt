@@ -1,4 +1,5 @@
--- `files::check_for` meets its contract: in edition 2 by the check of the whole file, and else by that which leaves block b out.
+-- `files::check_for` meets its contract: in edition 2 by the check of the whole file, and else by that which leaves
+-- block b out.
 -- Assumes nothing.
 use mathlib.Core.Path.{_≡_, sym, ap, _∙_}
 use denote.Ref.{now}

@@ -1,4 +1,5 @@
--- `files::first_bad_but` meets its contract: every block that the walk has passed is block b or has its run indices in range.
+-- `files::first_bad_but` meets its contract: every block that the walk has passed is block b or has its run indices in
+-- range.
 -- Assumes nothing.
 use mathlib.Core.Bool.{true}
 use mathlib.Core.Logic.{⊎-elim}

@@ -1,4 +1,5 @@
--- `files::lay_numbered` meets its contract: behind right contents the answer of `block_of` tells of the run indices alone.
+-- `files::lay_numbered` meets its contract: behind right contents the answer of `block_of` tells of the run indices
+-- alone.
 -- Assumes nothing.
 use mathlib.Core.Path.{_≡_, sym, ap, _∙_}
 use denote.Ref.{now}

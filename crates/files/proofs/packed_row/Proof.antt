@@ -1,4 +1,5 @@
--- `files::packed_row` meets its contract: the body that is lent is the block's, and what is found there, with the reference, is the block's value.
+-- `files::packed_row` meets its contract: the body that is lent is the block's, and what is found there, with the
+-- reference, is the block's value.
 -- Assumes nothing.
 use mathlib.Core.Path.{_≡_, sym, ap, ap₂, _∙_}
 use Prim.Native.Nat.{_+_, _%_, _^_}

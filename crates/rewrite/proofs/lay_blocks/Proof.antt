@@ -1,4 +1,5 @@
--- `rewrite::lay_blocks` meets its contract: after each body of the walk the output holds the entries and the bodies up to there.
+-- `rewrite::lay_blocks` meets its contract: after each body of the walk the output holds the entries and the bodies up
+-- to there.
 -- Assumes nothing.
 use mathlib.Core.List.{_++_}
 use mathlib.Core.Path.{_≡_, sym, ap, _∙_}

@@ -1,4 +1,5 @@
--- `rewrite::lay_one` meets its contract: the block is laid down over zeros, its new body from its place on, and its entry and range in theirs.
+-- `rewrite::lay_one` meets its contract: the block is laid down over zeros, its new body from its place on, and its
+-- entry and range in theirs.
 -- Assumes nothing.
 use mathlib.Core.Path.{ap, _∙_}
 use Prim.Native.Nat.{_-_}

@@ -1,4 +1,5 @@
--- `runs::highest` meets its contract. The loop's invariant: the highest number of the places passed, with those to come, is the highest of all.
+-- `runs::highest` meets its contract. The loop's invariant: the highest number of the places passed, with those to
+-- come, is the highest of all.
 -- Assumes nothing.
 use Prim.Native.Nat.{_-_}
 use native.Mathlib.Omega.{arith}

@@ -1,4 +1,5 @@
--- `search::list_rows` meets its contract: the rows of the blocks that the walk has passed are listed, and k is how many they are.
+-- `search::list_rows` meets its contract: the rows of the blocks that the walk has passed are listed, and k is how many
+-- they are.
 -- Assumes nothing.
 use mathlib.Core.Bool.{false}
 use mathlib.Core.Logic.{⊎-elim}

@@ -1,4 +1,5 @@
--- `search::meets` meets its contract: the two ends that are compared are the higher of the lower ends and the lower of the upper ends.
+-- `search::meets` meets its contract: the two ends that are compared are the higher of the lower ends and the lower of
+-- the upper ends.
 -- Assumes nothing.
 use mathlib.Core.Logic.{⊎-elim}
 use mathlib.Core.Path.{_≡_, ap₂}

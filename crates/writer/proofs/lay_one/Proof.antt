@@ -1,4 +1,5 @@
--- `writer::lay_one` meets its contract: the body is laid down from its place on, and then the entry and its range in its own.
+-- `writer::lay_one` meets its contract: the body is laid down from its place on, and then the entry and its range in
+-- its own.
 -- Assumes nothing.
 use mathlib.Core.Path.{ap, _∙_}
 use Prim.Native.Nat.{_-_}

@@ -1,4 +1,5 @@
--- `access::t64::look_up` meets its contract: lane and row are those of the index, and the value there is the one that is read.
+-- `access::t64::look_up` meets its contract: lane and row are those of the index, and the value there is the one that
+-- is read.
 -- Assumes nothing.
 use mathlib.Core.Path.{_≡_, ap, _∙_}
 use Prim.Native.Nat.{_<_}

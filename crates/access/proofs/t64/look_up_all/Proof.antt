@@ -1,5 +1,5 @@
--- `access::t64::look_up_all` meets its contract. The loop's invariant: the first i outputs hold the values at their indices, and their
--- second words are counted.
+-- `access::t64::look_up_all` meets its contract. The loop's invariant: the first i outputs hold the values at their
+-- indices, and their second words are counted.
 -- Assumes nothing.
 use mathlib.Core.Logic.{⊎-elim}
 use mathlib.Core.Path.{_≡_, sym, ap, subst, _∙_}

@@ -1,5 +1,5 @@
--- `access::t64::look_up_within` meets its contract. The loop's invariant: the first i outputs hold the values at their indices, and what they read and
--- what is left are the budget.
+-- `access::t64::look_up_within` meets its contract. The loop's invariant: the first i outputs hold the values at their
+-- indices, and what they read and what is left are the budget.
 -- Assumes nothing.
 use mathlib.Core.Logic.{inl, inr, ⊎-elim}
 use mathlib.Core.Path.{_≡_, refl, sym, ap, subst, _∙_}

@@ -1,4 +1,5 @@
--- `access::t64::unpack_single` meets its contract: each refusal by its test, and the value is the one at the place that the tables give.
+-- `access::t64::unpack_single` meets its contract: each refusal by its test, and the value is the one at the place that
+-- the tables give.
 -- Assumes nothing.
 use mathlib.Core.Path.{sym, _∙_}
 use Prim.Native.Nat.{_<_}

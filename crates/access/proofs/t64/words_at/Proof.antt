@@ -1,4 +1,5 @@
--- `access::t64::words_at` meets its contract: where there are such a width and such a place, it is the count of the place's row.
+-- `access::t64::words_at` meets its contract: where there are such a width and such a place, it is the count of the
+-- place's row.
 -- Assumes nothing.
 use mathlib.Core.Path.{_∙_}
 use native.Mathlib.Omega.{arith}

@@ -1,6 +1,6 @@
 -- Written by tools/sizes from the text of size 64: edit that one, and run tools/sizes.
--- `access::t8::look_up_all` meets its contract. The loop's invariant: the first i outputs hold the values at their indices, and their
--- second words are counted.
+-- `access::t8::look_up_all` meets its contract. The loop's invariant: the first i outputs hold the values at their
+-- indices, and their second words are counted.
 -- Assumes nothing.
 use mathlib.Core.Logic.{⊎-elim}
 use mathlib.Core.Path.{_≡_, sym, ap, subst, _∙_}

@@ -1,6 +1,6 @@
 -- Written by tools/sizes from the text of size 64: edit that one, and run tools/sizes.
--- `access::t8::look_up_within` meets its contract. The loop's invariant: the first i outputs hold the values at their indices, and what they read and
--- what is left are the budget.
+-- `access::t8::look_up_within` meets its contract. The loop's invariant: the first i outputs hold the values at their
+-- indices, and what they read and what is left are the budget.
 -- Assumes nothing.
 use mathlib.Core.Logic.{inl, inr, ⊎-elim}
 use mathlib.Core.Path.{_≡_, refl, sym, ap, subst, _∙_}

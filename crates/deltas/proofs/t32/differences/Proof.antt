@@ -1,6 +1,6 @@
 -- Written by tools/sizes from the text of size 64: edit that one, and run tools/sizes.
--- `deltas::t32::differences` meets its contract. The loops' invariants: the first rows hold their differences, and prev is the row before the next
--- one.
+-- `deltas::t32::differences` meets its contract. The loops' invariants: the first rows hold their differences, and prev
+-- is the row before the next one.
 -- Assumes nothing.
 use mathlib.Core.Path.{_≡_, sym, ap, ap₂, _∙_}
 use Prim.Native.Nat.{_+_, _-_, _*_, _/_, _≤_, _<_}

@@ -1,5 +1,5 @@
--- `deltas::t64::differences` meets its contract. The loops' invariants: the first rows hold their differences, and prev is the row before the next
--- one.
+-- `deltas::t64::differences` meets its contract. The loops' invariants: the first rows hold their differences, and prev
+-- is the row before the next one.
 -- Assumes nothing.
 use mathlib.Core.Path.{_≡_, sym, ap, ap₂, _∙_}
 use Prim.Native.Nat.{_+_, _-_, _*_, _/_, _≤_, _<_}

@@ -1,4 +1,5 @@
--- `deltas::t64::for_pack` meets its contract: each refusal by its test; a packed block of width 0 has no words to write.
+-- `deltas::t64::for_pack` meets its contract: each refusal by its test; a packed block of width 0 has no words to
+-- write.
 -- Assumes nothing.
 use mathlib.Core.Path.{_≡_, refl, sym, ap, _∙_}
 use native.Mathlib.Omega.{arith}

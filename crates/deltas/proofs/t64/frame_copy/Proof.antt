@@ -1,4 +1,5 @@
--- `deltas::t64::frame_copy` meets its contract. The loop's invariant: the first r rows of words are the frame's, and row r starts at `start`.
+-- `deltas::t64::frame_copy` meets its contract. The loop's invariant: the first r rows of words are the frame's, and
+-- row r starts at `start`.
 -- Assumes nothing.
 use mathlib.Core.Path.{sym, ap₂, _∙_}
 use Prim.Native.Nat.{_-_, _≤_}

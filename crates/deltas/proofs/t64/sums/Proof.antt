@@ -1,4 +1,5 @@
--- `deltas::t64::sums` meets its contract. The loops' invariants: the first rows are summed, and prev is the last of them.
+-- `deltas::t64::sums` meets its contract. The loops' invariants: the first rows are summed, and prev is the last of
+-- them.
 -- Assumes nothing.
 use mathlib.Core.Path.{_≡_, _∙_}
 use Prim.Native.Nat.{_+_, _-_, _*_, _/_, _≤_, _<_}

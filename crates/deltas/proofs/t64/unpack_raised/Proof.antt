@@ -1,5 +1,5 @@
--- `deltas::t64::unpack_raised` meets its contract. The loops' invariants: the first rows hold their values, raised by the
--- reference, and the walk stands where the next one begins.
+-- `deltas::t64::unpack_raised` meets its contract. The loops' invariants: the first rows hold their values, raised by
+-- the reference, and the walk stands where the next one begins.
 -- Assumes nothing.
 use mathlib.Core.Path.{_≡_, ap, ap₂, _∙_}
 use mathlib.Core.Logic.{⊎-elim}

@@ -1,5 +1,6 @@
 -- Written by tools/sizes from the text of size 64: edit that one, and run tools/sizes.
--- `deltas::t8::sums` meets its contract. The loops' invariants: the first rows are summed, and prev is the last of them.
+-- `deltas::t8::sums` meets its contract. The loops' invariants: the first rows are summed, and prev is the last of
+-- them.
 -- Assumes nothing.
 use mathlib.Core.Path.{_≡_, _∙_}
 use Prim.Native.Nat.{_+_, _-_, _*_, _/_, _≤_, _<_}

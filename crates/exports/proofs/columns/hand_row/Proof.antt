@@ -1,4 +1,5 @@
--- `hand_row` hands over each part of what it takes. The parts are searched for one by one: there are too many for one search.
+-- `hand_row` hands over each part of what it takes. The parts are searched for one by one: there are too many for one
+-- search.
 -- Assumes nothing.
 use borrow.Author.Needs.{needs}
 use Rattle.exports.proofs.columns.hand_row.Statement.{statement}

@@ -1,4 +1,5 @@
--- `files::lookup::row_of` meets its contract: the order list is asked below its end, and the arithmetic is the rule for the row.
+-- `files::lookup::row_of` meets its contract: the order list is asked below its end, and the arithmetic is the rule for
+-- the row.
 -- Assumes nothing.
 use mathlib.Core.Path.{sym, ap, _∙_, subst}
 use Prim.Native.Nat.{_+_, _*_, _/_, _<_}

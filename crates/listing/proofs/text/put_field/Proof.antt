@@ -1,4 +1,5 @@
--- `listing::text::put_field` meets its contract: the number goes into the tail that is lent, and the byte that ends it behind it.
+-- `listing::text::put_field` meets its contract: the number goes into the tail that is lent, and the byte that ends it
+-- behind it.
 -- Assumes nothing.
 use mathlib.Core.Path.{_≡_, sym, ap, _∙_}
 use Prim.Native.Nat.{_+_, _-_}

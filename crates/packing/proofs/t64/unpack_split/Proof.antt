@@ -1,5 +1,5 @@
--- `packing::t64::unpack_split` meets its contract. The loops' invariants: the first rows hold their values, and the walk stands where the next one
--- begins.
+-- `packing::t64::unpack_split` meets its contract. The loops' invariants: the first rows hold their values, and the
+-- walk stands where the next one begins.
 -- Assumes nothing.
 use mathlib.Core.Path.{_≡_, ap, _∙_}
 use mathlib.Core.Logic.{⊎-elim}

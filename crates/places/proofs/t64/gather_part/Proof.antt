@@ -1,4 +1,5 @@
--- `places::t64::gather_part` meets its contract. The loop's invariant: the first o runs of the part stand in their places.
+-- `places::t64::gather_part` meets its contract. The loop's invariant: the first o runs of the part stand in their
+-- places.
 -- Assumes nothing.
 use mathlib.Core.Path.{_≡_}
 use Prim.Native.Nat.{ℕ, _+_, _-_, _*_, _≤_, _<_}

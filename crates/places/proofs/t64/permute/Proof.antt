@@ -1,4 +1,5 @@
--- `places::t64::permute` meets its contract. The loop's invariant: the first parts of the output hold what the walk finds for them.
+-- `places::t64::permute` meets its contract. The loop's invariant: the first parts of the output hold what the walk
+-- finds for them.
 -- Assumes nothing.
 use mathlib.Core.Path.{_≡_, _∙_}
 use Prim.Native.Nat.{ℕ, _+_, _-_, _*_, _≤_, zero-le}

@@ -1,4 +1,5 @@
--- `plain::t64::unpack_single` meets its contract: where the place is taken, its value and its count are those of its row and its lane.
+-- `plain::t64::unpack_single` meets its contract: where the place is taken, its value and its count are those of its
+-- row and its lane.
 -- Assumes nothing.
 use mathlib.Core.Path.{sym, ap, ap₂, _∙_, subst}
 use Prim.Native.Nat.{_<_}

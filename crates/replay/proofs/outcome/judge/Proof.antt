@@ -1,4 +1,5 @@
--- `replay::outcome::judge` meets its contract: a case is the same exactly where what was given back and what both buffers hold are as expected.
+-- `replay::outcome::judge` meets its contract: a case is the same exactly where what was given back and what both
+-- buffers hold are as expected.
 -- Assumes nothing.
 use mathlib.Core.Path.{sym, _∙_}
 use native.Mathlib.Omega.{arith}

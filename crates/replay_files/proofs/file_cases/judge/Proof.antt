@@ -1,4 +1,5 @@
--- `replay_files::file_cases::judge` meets its contract: a case is the same exactly where what was given back and what c holds are as expected.
+-- `replay_files::file_cases::judge` meets its contract: a case is the same exactly where what was given back and what c
+-- holds are as expected.
 -- Assumes nothing.
 use denote.Ref.{now}
 use borrow.Author.Needs.{needs}

@@ -1,4 +1,5 @@
--- `replay_files::t64::judge` meets its contract: a case is the same exactly where what was given back and what c holds are as expected.
+-- `replay_files::t64::judge` meets its contract: a case is the same exactly where what was given back and what c holds
+-- are as expected.
 -- Assumes nothing.
 use Prim.Native.Nat.{_/_}
 use denote.Ref.{now}

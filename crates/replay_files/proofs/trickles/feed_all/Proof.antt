@@ -1,4 +1,5 @@
--- `replay_files::trickles::feed_all` is safe and ends. What holds from turn to turn is that the chunk begins within the bytes.
+-- `replay_files::trickles::feed_all` is safe and ends. What holds from turn to turn is that the chunk begins within the
+-- bytes.
 -- Assumes nothing.
 use Prim.Native.Nat.{_-_, _≤_}
 use lib.ListN.{length}
