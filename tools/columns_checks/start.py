@@ -7,7 +7,7 @@ import time
 
 from colmodel_lib import columns
 
-from .common import ROOT, TOOL, as_told
+from .common import ROOT, TOOL, as_told, not_tried
 
 
 def anywhere(checks, run):
@@ -72,11 +72,17 @@ def elsewhere(checks, run):
     (place / "crates" / "exports").mkdir(parents=True)
     (place / "crates.txt").write_text("exports:\n")
     start = place / "tools" / "columns"
-    said = run.tool("check", "ours.col", start=start, more={"PATH": "/usr/bin:/bin"})
-    checks.that("neither built nor a kit", said.status == 2 and "rt" in said.err and "install" in said.err, str(said))
+    if shutil.which("rt", path="/usr/bin:/bin"):
+        not_tried("a start without the kit", "it is where the system's own commands are")
+    else:
+        said = run.tool("check", "ours.col", start=start, more={"PATH": "/usr/bin:/bin"})
+        good = said.status == 2 and "the command rt, which proves it, is not on the PATH" in said.err
+        checks.that("neither built nor a kit", good, str(said))
     time.sleep(0.05)
     shutil.copytree(ROOT / "target" / "columns", place / "target" / "columns")
-    (place / "target" / "columns" / "start").touch()
+    for name in ("libexports.a", "start"):
+        (place / "target" / "columns" / name).touch()
+        time.sleep(0.02)
     data = (run.folder / "ours.col").read_bytes()
     as_told(
         checks,
