@@ -29,6 +29,10 @@ ELEMENTS = {
     TRICKLE: (1, 8, 8),
     TRICKLE_FROM: (1, 8, 8),
 }
+# The calls on blocks, which the model does not know, and the bytes of an element of b where they are other than T / 8.
+BLOCKS = (*range(9), *range(10, 15), 23, 27, 28, 29)
+BLOCKS_B = {3: 8, 10: 2, 23: 8}
+BIT_BLOCKS = 13, 14
 MOST_BYTES = 2_200_000  # of one buffer in a stream
 NO_COUNT = 2**64 - 1  # in the reference of a row lookup that says no count of words
 BY_HAND, STARTED = 0, 1  # in the reference of call 30: where its state comes from
@@ -149,6 +153,24 @@ def sizes_of(op):
 def elements(op, t):
     """The bytes of an element of a, b and c."""
     return (t // 8, 1, t // 8) if op in DRAWERS else ELEMENTS[op]
+
+
+def record_elements(op, t):
+    """The bytes of an element of a, b, c and d, also of the calls on blocks."""
+    if op in CALLS:
+        return *elements(op, t), 1
+    size = 8 if op in BIT_BLOCKS else t // 8
+    return size, BLOCKS_B.get(op, size), size, size
+
+
+def behind_blocks(data):
+    """Where in a stream the cases on blocks that stand at its front end."""
+    at = 0
+    while at < len(data) and data[at] in BLOCKS:
+        op, t, *_, n_a, n_b, n_c, n_d = HEAD.unpack_from(data, at)
+        a, b, c, d = record_elements(op, t)
+        at += HEAD.size + n_a * a + n_b * b + 2 * n_c * c + 2 * n_d * d
+    return at
 
 
 def takes_reference(op):

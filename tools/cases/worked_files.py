@@ -38,7 +38,7 @@ BLOCK = [7] * 1024
 
 
 class FileCase:
-    """A question to a call of replay_files, with what document 02 says of it."""
+    """A question to a call on files or a trickle, with what document 02 says of it."""
 
     def __init__(self, op, name, a=b"", b=(), c=b"", left=None, number=0, place=0, value=0, **more):
         self.op, self.name, self.a, self.b, self.c = op, name, a, list(b), c

@@ -1,5 +1,5 @@
 // The calls on bit blocks: the sixteen numbers at the front of a buffer.
-use crate::Wide;
+use crate::block_cases::Wide;
 use places::Answer;
 use stream::Head;
 use stream::Reply;

@@ -1,5 +1,5 @@
 // Lists of indices.
-use crate::Wide;
+use crate::block_cases::Wide;
 ghost use mathlib.Core.Path.{_≡_};
 ghost use Prim.Native.Nat.{_≤_};
 ghost use lib.ListN.{getD};

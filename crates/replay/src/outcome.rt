@@ -1,5 +1,5 @@
 // What a case comes to, from what its call gave back and left in the buffers.
-use crate::Wide;
+use crate::block_cases::Wide;
 use access::Afforded;
 use access::Listed;
 use places::Answer;

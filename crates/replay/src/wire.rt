@@ -1,5 +1,6 @@
-// Reading the stream: the head of a record, its buffers, and the little-endian numbers that both are made of.
-use crate::Wide;
+// Reading the stream: the head of a record, its buffers, and the little-endian numbers that both are made of. The
+// calls on blocks have their buffers as numbers, and the others as bytes or as numbers of eight bytes.
+use crate::block_cases::Wide;
 use libc::STDIN_FILENO;
 use little::pair;
 use little::quad;
@@ -11,7 +12,7 @@ use stream::narrow::widen_u16;
 use stream::narrow::widen_u32;
 ghost use mathlib.Core.Path.{_≡_};
 ghost use mathlib.Core.Bool.{true};
-ghost use Prim.Native.Nat.{_+_, _*_, _/_, _≤_};
+ghost use Prim.Native.Nat.{_+_, _*_, _≤_};
 ghost use lib.ListN.{length};
 ghost use Rattle.lists.specs.Tab.{tab, over};
 ghost use Rattle.little.specs.Little.{little};
@@ -24,54 +25,6 @@ pub enum Beginning {
     // less than a head
     Cut,
     Whole(Head),
-}
-
-// Whether a record can have this head: one of the four sizes, zeros where zeros are due, and no buffer above 4,096
-// elements. Whether there is such an op, the modules of the sizes say when they are asked to make the call.
-pub fn is_possible(head: Head) -> bool {
-    is_size(head.t)
-        && (head.op != 14 || head.t == 64)
-        && head.zero == 0
-        && head.n_a <= 4096
-        && head.n_b <= 4096
-        && head.n_c <= 4096
-        && head.n_d <= 4096
-}
-
-// How many bytes an element has, in each buffer.
-pub fn bytes_a(head: Head) -> usize {
-    let op = head.op;
-    match op {
-        13 | 14 => 8,
-        _ => bytes_of(head.t),
-    }
-}
-
-pub fn bytes_b(head: Head) -> usize {
-    let op = head.op;
-    match op {
-        3 | 23 => 8,
-        10 => 2,
-        _ => bytes_of(head.t),
-    }
-}
-
-pub fn bytes_c(head: Head) -> usize {
-    bytes_a(head)
-}
-
-pub fn bytes_d(head: Head) -> usize {
-    bytes_of(head.t)
-}
-
-fn is_size(t: u8) -> bool {
-    t == 8 || t == 16 || t == 32 || t == 64
-}
-
-fn bytes_of(t: u8) -> usize
-    ensures { λ r. ⌜ r ≡ t / 8 ⌝ }
-{
-    (t / 8) as usize
 }
 
 // The head of the next record.
@@ -87,8 +40,8 @@ pub fn read_head() -> Beginning {
     Beginning::Whole(head_of(&bytes))
 }
 
-// Reads n elements of size bytes each, and answers whether they were all there. An element has 1, 2, 4 or 8 bytes, and
-// a buffer at most 4,096 elements: more are not read.
+// Reads n elements of size bytes each, and answers whether they were all there. An element has 1, 2, 4 or 8 bytes,
+// and a buffer at most 4,096 elements: more are not read.
 pub fn read_numbers(n: usize, size: usize, out: &mut Wide) -> bool {
     if n == 0 {
         return true;
@@ -145,4 +98,36 @@ fn element(bytes: &[u8], at: usize, size: usize) -> u64
         4 => widen_u32(quad(bytes, at)),
         _ => word(bytes, at),
     }
+}
+
+// Reads n bytes to the front of out, and answers whether they were all there. What does not fit is not read.
+pub fn read_bytes(n: usize, out: &mut [u8]) -> bool {
+    if n == 0 {
+        return true;
+    }
+    if out.len() < n {
+        return false;
+    }
+    let got = io::read_full(STDIN_FILENO, &mut out[..n]);
+    got == n
+}
+
+// The same for n times eight bytes.
+pub fn read_eights(n: usize, out: &mut [u8]) -> bool {
+    if out.len() / 8 < n {
+        return false;
+    }
+    read_bytes(8 * n, out)
+}
+
+// Reads n numbers of eight bytes each to the front of out, by way of bytes, and answers whether they were all there.
+pub fn read_words(n: usize, bytes: &mut [u8], out: &mut [u64]) -> bool {
+    if out.len() < n {
+        return false;
+    }
+    if !read_eights(n, bytes) {
+        return false;
+    }
+    little::read_words(bytes, &mut out[..n]);
+    true
 }

@@ -1,4 +1,4 @@
-"""The sample that the repository keeps in crates/replay_files/stdin: a few of the deliberate cases of every sort, and
+"""The sample that the repository keeps in crates/replay/stdin: a few of the deliberate cases of every sort, and
 some like them that take less room. Each part has dice of its own."""
 from cases.dice import Dice
 from . import canonicals, drawers, editions, reads, rewrites, searches, trickles, writes
