@@ -80,9 +80,7 @@ def elsewhere(checks, run):
         checks.that("neither built nor a kit", good, str(said))
     time.sleep(0.05)
     shutil.copytree(ROOT / "target" / "columns", place / "target" / "columns")
-    for name in ("libexports.a", "start"):
-        (place / "target" / "columns" / name).touch()
-        time.sleep(0.02)
+    (place / "target" / "columns" / "start").touch()
     data = (run.folder / "ours.col").read_bytes()
     as_told(
         checks,
