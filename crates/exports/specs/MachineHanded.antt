@@ -1,6 +1,6 @@
 -- How a state and a wish of the machine that lists what two files differ in cross to a program in C or in Rust: as
--- numbers. Any numbers tell a state, so a program cannot hand over a wrong one, and the numbers of a state tell that
--- state again, which is a theorem.
+-- numbers. Any numbers tell a state, so a program cannot hand over one for which nothing is promised, and the
+-- numbers of a state tell that state again, which is a theorem.
 -- Assumes nothing.
 use mathlib.Core.Path.{_≡_}
 use mathlib.Core.List.{List, [], _∷_}
@@ -28,7 +28,7 @@ abbrev pub sideNumber : Side → ℕ
 sideNumber Left = 0
 sideNumber Right = 1
 
--- and so is told by any other number than 0.
+-- and any other number than 0 tells the right one too.
 abbrev pub sideOf : (number : ℕ) → Side
 sideOf n = pick (eqb n 0) Left Right
 

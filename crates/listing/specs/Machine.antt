@@ -233,6 +233,6 @@ byStage End s h out = given (doneTurn s) out
 unfoldable pub nextOf : Machine State
 nextOf s h out = pick (leb 65536 (length out)) (byStage (s .stage) s h out) (given (doneTurn s) out)
 
--- No run takes more turns than this: with 256 blocks in each file it takes 1,288.
+-- No run takes more turns than this: with 256 blocks in each file it takes at most 1,288.
 abbrev pub mostTurns : ℕ
 mostTurns = 1300
