@@ -79,9 +79,13 @@ module _ (l : List ℕ) (low high : ℕ) where
     pub opened-done : badIn l low high true ≡ count l → fileAnswer (openedTests l low high) ≡ Done
     opened-done same = ranges-left ∙ passed _ _ (eq-eqb (badRangeIn l low high) (count l) (ranges-are ∙ same)) ∙ none-left
 
-  -- Where they are passed, the opened blocks have their run indices in range.
+  -- Where they are passed, the opened blocks have their run indices in range,
   pub opened-good : fileAnswer (openedTests l low high) ≡ Done → badIn l low high false ≡ count l
   opened-good done = sym runs-are ∙ eqb-true (badRunsIn l low high) (count l) (done-first _ _ refl done .0)
+
+  -- and the ranges that their entries say.
+  pub opened-true : fileAnswer (openedTests l low high) ≡ Done → badIn l low high true ≡ count l
+  opened-true done = sym ranges-are ∙ eqb-true (badRangeIn l low high) (count l) (done-first _ _ refl (done-first _ _ refl done .1) .0)
 
   -- Where every block is not opened or as asked, there is no bad one.
   pub none-bad : (ranges : Bool) → ((i : ℕ) → i < count l → pick (opens l low high i) (asked l ranges i) true ≡ true) → badIn l low high ranges ≡ count l

@@ -7,3 +7,4 @@ pub mod Searched
 pub mod Theorems
 pub mod Unopened
 pub mod Walks
+pub mod Within

@@ -3,9 +3,10 @@
 use mathlib.Core.Bool.{Bool, true}
 use mathlib.Core.List.{List}
 use Prim.Native.Nat.{ℕ}
-use Rattle.lists.specs.Pick.{pick}
+use lib.Dec.{eqb, leb}
+use Rattle.lists.specs.Pick.{pick, both}
 use Rattle.lists.specs.Search.{firstBad}
-use Rattle.contents.specs.Contents.{count, entryOf}
+use Rattle.contents.specs.Contents.{count, entryOf, editionOr, rangeOr}
 use Rattle.bodies.specs.Bodies.{hasGoodRuns}
 use Rattle.files.specs.Files.{bodyOf, hasTrueRange}
 use Rattle.search.specs.Search.{opens}
@@ -17,3 +18,8 @@ asked l ranges i = pick ranges (hasTrueRange l i) (hasGoodRuns (entryOf l i) (bo
 -- This is the lowest opened block that is not as asked, and the count where there is none.
 abbrev pub badIn : (l : List ℕ) (low high : ℕ) (ranges : Bool) → ℕ
 badIn l low high ranges = firstBad (count l) (λ i. pick (opens l low high i) (asked l ranges i) true)
+
+-- By the contents alone the range of block i lies within the bounds, in edition 2. Edition 1 says no range.
+abbrev pub withinBy : (front : List ℕ) (low high i : ℕ) → Bool
+withinBy front low high i =
+    both (eqb (editionOr front) 2) (both (leb low (rangeOr front i .smallest)) (leb (rangeOr front i .largest) high))

@@ -16,17 +16,21 @@ use contents::range_or;
 use files::block_from;
 use files::is_good_from;
 use files::is_true_from;
+use rows::t64::splat;
+use rows::t64::store;
+use rows::t64::wrapping_add;
+use std::num::wrapping_sub_u64;
 ghost use mathlib.Core.Path.{_≡_};
 ghost use Prim.Native.Nat.{_+_, _*_, _≤_, _<_};
 ghost use lib.Dec.{leb};
-ghost use lib.ListN.{length};
-ghost use Rattle.lists.specs.Tab.{over};
+ghost use lib.ListN.{length, take};
+ghost use Rattle.lists.specs.Tab.{tab, over};
 ghost use Rattle.contents.specs.Answers.{fileAnswer};
 ghost use Rattle.contents.specs.Contents.{edition as editionIn, count as countIn, bodyStart, ContentsTaken};
 ghost use mathlib.Core.Bool.{true, false};
 ghost use Rattle.files.specs.Files.{blockIn};
 ghost use Rattle.search.specs.Search.{between, meets as meetsIn, opened, found, openedTests, foundOf, searchLeaves, answerOf, rowsFound, blocksOpened};
-ghost use Rattle.search.specs.InnerBlocks.{asked, badIn};
+ghost use Rattle.search.specs.InnerBlocks.{asked, badIn, withinBy};
 ghost use Rattle.search.specs.Steps.{opensBy, foundIn, listedOf, listedLeaves};
 
 // How many rows were listed and how many blocks were opened for them, or the refusal.
@@ -231,16 +235,29 @@ fn count_rows(file: &[u8], low: u64, high: u64) -> usize
 fn list_rows(file: &[u8], low: u64, high: u64, rows: &mut [u64]) -> usize
     requires { ⌜ ContentsTaken (now file) ⌝ }
     requires { ⌜ badIn (now file) low high false ≡ countIn (now file) ⌝ }
+    requires { ⌜ badIn (now file) low high true ≡ countIn (now file) ⌝ }
     requires { ⌜ length (found (now file) low high) ≤ length (now rows) ⌝ }
     ensures { λ r. ⌜ r ≡ length (found (now (file .entry)) low high) ⌝ }
     ensures { λ _. ⌜ now (rows .exit) ≡ over 0 (found (now (file .entry)) low high) (now (rows .entry)) ⌝ }
 {
     let n = count(file);
+    let mut block = [0u64; 1024];
+    let mut found = [0u64; 1024];
     let mut body = bodywise::first(file);
     let mut k = 0;
     while body.number < n {
         if opens(file, body.number, low, high) {
-            k = list_from(file, body.number, body.at, low, high, k, rows);
+            k = list_from(
+                file,
+                body.number,
+                body.at,
+                low,
+                high,
+                k,
+                &mut block,
+                &mut found,
+                rows,
+            );
         }
         let next = bodywise::next(file, body);
         body = next;
@@ -264,7 +281,8 @@ pub fn rows_in(block: &[u64], i: usize, low: u64, high: u64, rows: &mut [u64]) -
     if !block_fits(block, low, high, rows.len()) {
         return Found::Refused(FileAnswer::Room);
     }
-    let n = list_block(block, i * 1024, low, high, 0, rows);
+    let mut found = [0u64; 1024];
+    let n = list_block(block, i * 1024, low, high, 0, &mut found, rows);
     Found::Rows(n, 1)
 }
 
@@ -307,8 +325,18 @@ fn count_block(block: &[u64], low: u64, high: u64) -> usize
     k
 }
 
+// Whether the range that the contents say of block i lies within the bounds, in edition 2. Edition 1 says none.
+fn is_within(front: &[u8], i: usize, low: u64, high: u64) -> bool
+    ensures { λ r. ⌜ r ≡ withinBy (now (front .entry)) low high i ⌝ }
+{
+    let edition = edition(front);
+    let range = range_or(front, i);
+    (edition == 2) & ((low <= range.smallest) & (range.largest <= high))
+}
+
 // Lists the rows that are found in block i, whose body begins at `at`, from place k of the room on, and gives the place
-// behind them.
+// behind them. A block whose range lies within the bounds is not laid down again: every row of it is found. `block` and
+// `found` are room for one block and for the rows of one.
 fn list_from(
     file: &[u8],
     i: usize,
@@ -316,45 +344,132 @@ fn list_from(
     low: u64,
     high: u64,
     k: usize,
+    block: &mut [u64],
+    found: &mut [u64],
     rows: &mut [u64],
 ) -> usize
     requires { ⌜ ContentsTaken (now file) ⌝ }
     requires { ⌜ i < countIn (now file) ⌝ }
     requires { ⌜ at ≡ bodyStart (now file) i ⌝ }
     requires { ⌜ asked (now file) false i ≡ true ⌝ }
+    requires { ⌜ asked (now file) true i ≡ true ⌝ }
+    requires { ⌜ length (now block) ≡ 1024 ⌝ }
+    requires { ⌜ length (now found) ≡ 1024 ⌝ }
     requires { ⌜ k + length (foundIn (blockIn (now file) i) (i * 1024) low high) ≤ length (now rows) ⌝ }
     ensures { λ r. ⌜ r ≡ k + length (foundIn (blockIn (now (file .entry)) i) (i * 1024) low high) ⌝ }
+    ensures { λ _. ⌜ length (now (block .exit)) ≡ 1024 ⌝ }
+    ensures { λ _. ⌜ length (now (found .exit)) ≡ 1024 ⌝ }
     ensures { λ _. ⌜
         now (rows .exit)
         ≡ over k (foundIn (blockIn (now (file .entry)) i) (i * 1024) low high) (now (rows .entry))
         ⌝ }
 {
-    let mut block = [0u64; 1024];
-    block_from(file, i, at, &mut block);
-    list_block(&block, i * 1024, low, high, k, rows)
+    if is_within(file, i, low, high) {
+        list_all(i * 1024, k, rows);
+        return k + 1024;
+    }
+    block_from(file, i, at, block);
+    list_block(block, i * 1024, low, high, k, found, rows)
 }
 
-// Lists the rows of a block that begins with row `first` whose value lies between the bounds.
-fn list_block(block: &[u64], first: usize, low: u64, high: u64, k: usize, rows: &mut [u64]) -> usize
+// Lists all rows of a block that begins with row `first`, from place k of the room on: sixteen at a time, each sixteen
+// above those before.
+fn list_all(first: usize, k: usize, rows: &mut [u64])
+    requires { ⌜ k + 1024 ≤ length (now rows) ⌝ }
+    requires { ⌜ first + 2048 < 18446744073709551616 ⌝ }
+    ensures { λ _. ⌜ now (rows .exit) ≡ over k (tab 1024 (λ j. first + j)) (now (rows .entry)) ⌝ }
+{
+    let step = splat(16);
+    let mut run = sixteen(first);
+    let mut j = 0;
+    while j < 1024 {
+        put_sixteen(run, k + j, rows);
+        let next = wrapping_add(run, step);
+        run = next;
+        j += 16;
+    }
+}
+
+// Sixteen rows from one on.
+fn sixteen(first: usize) -> [u64; 16]
+    requires { ⌜ first + 16 < 18446744073709551616 ⌝ }
+    ensures { λ r. ⌜ r ≡ tab 16 (λ l. first + l) ⌝ }
+{
+    let mut x = [0u64; 16];
+    let mut l = 0;
+    while l < 16 {
+        x[l] = (first + l) as u64;
+        l += 1;
+    }
+    x
+}
+
+// Writes sixteen rows into the room, from place a on.
+fn put_sixteen(run: [u64; 16], a: usize, rows: &mut [u64])
+    requires { ⌜ a + 16 ≤ length (now rows) ⌝ }
+    ensures { λ _. ⌜ now (rows .exit) ≡ over a run (now (rows .entry)) ⌝ }
+{
+    let e = a + 16;
+    store(&mut rows[a..e], run);
+}
+
+// Lists the rows of a block that begins with row `first` whose value lies between the bounds, from place k of the room
+// on. What stands behind the last of them has to stay, so they are gathered in `found` and then copied.
+fn list_block(
+    block: &[u64],
+    first: usize,
+    low: u64,
+    high: u64,
+    k: usize,
+    found: &mut [u64],
+    rows: &mut [u64],
+) -> usize
     requires { ⌜ length (now block) ≡ 1024 ⌝ }
+    requires { ⌜ length (now found) ≡ 1024 ⌝ }
     requires { ⌜ first + 1024 < 18446744073709551616 ⌝ }
     requires { ⌜ k + length (foundIn (now block) first low high) ≤ length (now rows) ⌝ }
     ensures { λ r. ⌜ r ≡ k + length (foundIn (now (block .entry)) first low high) ⌝ }
+    ensures { λ _. ⌜ length (now (found .exit)) ≡ 1024 ⌝ }
     ensures { λ _. ⌜ now (rows .exit) ≡ over k (foundIn (now (block .entry)) first low high) (now (rows .entry)) ⌝ }
 {
-    let mut next = k;
-    let mut o = 0;
-    while o < 128 {
-        let mut i = 0;
-        while i < 8 {
-            let j = o * 8 + i;
-            if lies(block[j], low, high) {
-                rows[next] = (first + j) as u64;
-                next += 1;
-            }
-            i += 1;
-        }
-        o += 1;
+    let n = gather(block, first, low, high, found);
+    put_rows(&found[..n], k, rows);
+    k + n
+}
+
+// Gathers the rows of the block whose value lies between the bounds at the front of `found`, and gives how many they are.
+// Every row is written, and the next one over it where it is not found: so there is no branch for a row. A value lies
+// between the bounds where it is no further above the lower one, modulo 2^64, than the upper one is.
+fn gather(block: &[u64], first: usize, low: u64, high: u64, found: &mut [u64]) -> usize
+    requires { ⌜ length (now block) ≡ 1024 ⌝ }
+    requires { ⌜ length (now found) ≡ 1024 ⌝ }
+    requires { ⌜ first + 1024 < 18446744073709551616 ⌝ }
+    ensures { λ n. ⌜ n ≡ length (foundIn (now (block .entry)) first low high) ⌝ }
+    ensures { λ n. ⌜ take n (now (found .exit)) ≡ foundIn (now (block .entry)) first low high ⌝ }
+    ensures { λ _. ⌜ length (now (found .exit)) ≡ 1024 ⌝ }
+{
+    if high < low {
+        return 0;
     }
-    next
+    let span = high - low;
+    let mut n = 0;
+    let mut j = 0;
+    while j < 1024 {
+        found[n] = (first + j) as u64;
+        n += (wrapping_sub_u64(block[j], low) <= span) as usize;
+        j += 1;
+    }
+    n
+}
+
+// Copies rows into the room, from place k on.
+fn put_rows(part: &[u64], k: usize, rows: &mut [u64])
+    requires { ⌜ k + length (now part) ≤ length (now rows) ⌝ }
+    ensures { λ _. ⌜ now (rows .exit) ≡ over k (now (part .entry)) (now (rows .entry)) ⌝ }
+{
+    let mut q = 0;
+    while q < part.len() {
+        rows[k + q] = part[q];
+        q += 1;
+    }
 }

@@ -1,9 +1,9 @@
 -- `search::list_rows` meets its contract: the rows of the blocks that the walk has passed are listed, and k is how many
 -- they are.
 -- Assumes nothing.
-use mathlib.Core.Bool.{false}
+use mathlib.Core.Bool.{true, false}
 use mathlib.Core.Logic.{⊎-elim}
-use mathlib.Core.Path.{_≡_, sym, ap, _∙_}
+use mathlib.Core.Path.{_≡_, refl, sym, ap, _∙_}
 use Prim.Native.Nat.{ℕ, _+_, _-_, _≤_, _<_}
 use native.Mathlib.Omega.{arith}
 use denote.Ref.{now}
@@ -21,20 +21,22 @@ use Rattle.search.proofs.list_rows.Statement.{statement}
 use Rattle.search.proofs.list_rows.Tie as tie
 
 abbrev Inv-loop : tie.InvT-loop
-Inv-loop file low high rows₀ n body₀ k₀ rows body k =
+Inv-loop file low high rows₀ n block₀ found₀ body₀ k₀ rows block found body k =
     Walking file body
     × (n ≡ count file)
     × (k ≡ length (foundTo file low high (body .number)))
     × (rows ≡ over 0 (foundTo file low high (body .number)) rows₀)
+    × (length block ≡ 1024)
+    × (length found ≡ 1024)
 
 abbrev μ-loop : tie.MeasureT-loop
-μ-loop file low high rows₀ n body₀ k₀ rows body k = n - body .number
+μ-loop file low high rows₀ n block₀ found₀ body₀ k₀ rows block found body k = n - body .number
 
 -- there is room for the rows of the blocks up to any block
 room : (c : tie.At-loop Inv-loop μ-loop) → (i : ℕ) → i ≤ count (now (c .before .before .before .before .before .args .file)) → length (foundTo (now (c .before .before .before .before .before .args .file)) (c .before .before .before .before .before .args .low) (c .before .before .before .before .before .args .high) i) ≤ length (now (c .before .before .before .before .before .args .rows))
 room c i h =
     let start = c .before .before .before .before .before in
-    omega (arith, found-within (now (start .args .file)) (start .args .low) (start .args .high) i h, start .pre .1 .1)
+    omega (arith, found-within (now (start .args .file)) (start .args .low) (start .args .high) i h, start .pre .1 .1 .1)
 
 -- and the room keeps its length
 same-room : (c : tie.At-loop Inv-loop μ-loop) → length (c .loop .rows) ≡ length (now (c .before .before .before .before .before .args .rows))
@@ -74,14 +76,22 @@ loop-holds c =
       c .before .count .ensures ∙ count-read l (start .pre .0),
       sym (ap length none),
       sym (ap (λ x. over 0 x (now (start .args .rows))) none ∙ over-nothing 0 (now (start .args .rows))),
+      refl,
+      refl,
     )
 
 opens-requires : tie.Need-opens-requires Inv-loop μ-loop
 opens-requires c κs = search needs
 
+slice-aggregate-list-from : tie.Need-slice-aggregate-list-from Inv-loop μ-loop
+slice-aggregate-list-from c = search needs
+
+slice-aggregate-list-from-2 : tie.Need-slice-aggregate-list-from-2 Inv-loop μ-loop
+slice-aggregate-list-from-2 c = search needs
+
 list-from-requires : tie.Need-list-from-requires Inv-loop μ-loop
 list-from-requires c κs =
-    let shown = c .before in
+    let shown = c .before .before .before in
     let asking = shown .before in
     let at-loop = asking .before .before .before in
     let start = at-loop .before .before .before .before .before in
@@ -98,7 +108,16 @@ list-from-requires c κs =
           at-loop .loop .inv .0 .start,
           (
             opened-asked l low high false (start .pre .1 .0) i there is-open,
-            omega (arith, at-loop .loop .inv .2, found-length l low high i is-open, room at-loop (i + 1) (omega arith), same-room at-loop),
+            (
+              opened-asked l low high true (start .pre .1 .1 .0) i there is-open,
+              (
+                at-loop .loop .inv .4,
+                (
+                  at-loop .loop .inv .5,
+                  omega (arith, at-loop .loop .inv .2, found-length l low high i is-open, room at-loop (i + 1) (omega arith), same-room at-loop),
+                ),
+              ),
+            ),
           ),
         ),
       ),
@@ -126,16 +145,18 @@ loop-again c =
       file-next l (start .pre .0) (omega arith) (at-loop .loop .inv .0) there (c .next .ensures),
       at-loop .loop .inv .1,
       ⊎-elim
-          (λ w. omega (arith, w .6, w .2 .ensures .0, at-loop .loop .inv .2, ap length further, found-length l low high i (sym (opened-is asking) ∙ w .0 .taken)))
-          (λ w. omega (arith, w .2, at-loop .loop .inv .2, ap length further, ap length (found-shut l low high i (sym (opened-is asking) ∙ w .0 .left))))
+          (λ w. omega (arith, w .12, w .4 .ensures .0, at-loop .loop .inv .2, ap length further, found-length l low high i (sym (opened-is asking) ∙ w .0 .taken)))
+          (λ w. omega (arith, w .4, at-loop .loop .inv .2, ap length further, ap length (found-shut l low high i (sym (opened-is asking) ∙ w .0 .left))))
           (joined .if2 .came),
       ⊎-elim
-          (λ w. w .5
-          ∙ w .2 .ensures .1
+          (λ w. w .9
+          ∙ w .4 .ensures .1 .1 .1
           ∙ listed-more l low high i (sym (opened-is asking) ∙ w .0 .taken) (at-loop .loop .k) old (at-loop .loop .rows) (at-loop .loop .inv .2) (at-loop .loop .inv .3) (room at-loop (i + 1) (omega arith)))
           (λ w. w .1 ∙ at-loop .loop .inv .3 ∙ ap (λ x. over 0 x old) (sym (found-shut l low high i (sym (opened-is asking) ∙ w .0 .left))))
           (joined .if2 .came)
           ∙ sym (ap (λ x. over 0 x old) further),
+      ⊎-elim (λ w. ap length (w .10) ∙ w .4 .ensures .1 .0) (λ w. ap length (w .2) ∙ at-loop .loop .inv .4) (joined .if2 .came),
+      ⊎-elim (λ w. ap length (w .11) ∙ w .4 .ensures .1 .1 .0) (λ w. ap length (w .3) ∙ at-loop .loop .inv .5) (joined .if2 .came),
     )
 
 same-length : tie.Need-same-length Inv-loop μ-loop
@@ -160,6 +181,8 @@ list-rows-spec =
     first-requires
     loop-holds
     opens-requires
+    slice-aggregate-list-from
+    slice-aggregate-list-from-2
     list-from-requires
     next-requires
     loop-less

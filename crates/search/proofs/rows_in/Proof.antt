@@ -1,7 +1,7 @@
 -- `search::rows_in` meets its contract: each refusal by its test, and the rows by what `list_block` ensures.
 -- Assumes nothing.
 use mathlib.Core.Bool.{true}
-use mathlib.Core.Path.{_≡_, sym, ap, _∙_}
+use mathlib.Core.Path.{_≡_, refl, sym, ap, _∙_}
 use Prim.Native.Nat.{_*_}
 use native.Mathlib.Nat.{zero-add}
 use native.Mathlib.Omega.{arith}
@@ -53,9 +53,12 @@ there c = sym (c .before .block-fits .ensures) ∙ not-false _ (c .if3 .left)
 mul-list-block : tie.Need-mul-list-block
 mul-list-block c = omega (arith, c .before .before .if2 .left)
 
+slice-aggregate-list-block : tie.Need-slice-aggregate-list-block
+slice-aggregate-list-block c = search needs
+
 list-block-requires : tie.Need-list-block-requires
 list-block-requires c κs =
-    let fits = c .before in
+    let fits = c .before .before in
     let asked = fits .before in
     let args = asked .before .before .before .before .before .args in
     let block = now (args .block) in
@@ -63,8 +66,11 @@ list-block-requires c κs =
     let high = args .high in (
       asked .before .before .if1 .left,
       (
-        omega (arith, asked .before .if2 .left),
-        omega (arith, leb-true (length (foundIn block 0 low high)) (length (now (args .rows))) (there fits), found-shift block (args .i * 1024) low high),
+        refl,
+        (
+          omega (arith, asked .before .if2 .left),
+          omega (arith, leb-true (length (foundIn block 0 low high)) (length (now (args .rows))) (there fits), found-shift block (args .i * 1024) low high),
+        ),
       ),
     )
 
@@ -73,8 +79,8 @@ same-length c = search needs
 
 returns-4 : tie.Need-returns-4
 returns-4 c =
-    let listed = c .before .before in
-    let fits = listed .before .before in
+    let listed = c .before .before .before in
+    let fits = listed .before .before .before in
     let asked = fits .before in
     let args = asked .before .before .before .before .before .args in
     let block = now (args .block) in
@@ -82,7 +88,7 @@ returns-4 c =
     listed-done block (args .i) (args .low) (args .high) (now (args .rows))
     (place-there block (args .i) (args .low) (args .high) (now (args .rows)) (asked .before .before .if1 .left) (omega (arith, asked .before .if2 .left)) (there fits)) in (
       ap (λ n. Rows n 1) (listed .list-block .ensures .0 ∙ zero-add (length (foundIn block (args .i * 1024) (args .low) (args .high)))) ∙ sym (is .0),
-      listed .list-block .ensures .1 ∙ sym (is .1),
+      listed .list-block .ensures .1 .1 ∙ sym (is .1),
     )
 
 pub rows-in-spec : {M : Type 1} → statement M
@@ -94,6 +100,7 @@ rows-in-spec =
     block-fits-requires
     returns-3
     mul-list-block
+    slice-aggregate-list-block
     list-block-requires
     same-length
     returns-4)

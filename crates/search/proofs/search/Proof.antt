@@ -12,7 +12,7 @@ use Rattle.contents.specs.Contents.{contentsTests}
 use Rattle.contents.proofs.Answers.{number-done}
 use Rattle.search.specs.declared.Found.the-variants.{Rows}
 use Rattle.search.specs.Search.{found, openedTests}
-use Rattle.search.proofs.Answers.{opened-good, search-refused, search-done, search-nothing, contents-first, opened-second, no-room, room-there}
+use Rattle.search.proofs.Answers.{opened-good, opened-true, search-refused, search-done, search-nothing, contents-first, opened-second, no-room, room-there}
 use Rattle.search.proofs.search.Statement.{statement}
 use Rattle.search.proofs.search.Tie as tie
 
@@ -101,7 +101,7 @@ list-rows-requires c κs =
     let args = first .before .before .before .before .before .args in
     let l = now (args .file) in
     let there = sym (asked .has-room .ensures) ∙ not-false _ (c .before .if4 .left) in
-    (right first, (opened-good l (args .low) (args .high) (good checked), leb-true (length (found l (args .low) (args .high))) (length (now (args .rows))) there))
+    (right first, (opened-good l (args .low) (args .high) (good checked), (opened-true l (args .low) (args .high) (good checked), leb-true (length (found l (args .low) (args .high))) (length (now (args .rows))) there)))
 
 same-length : tie.Need-same-length
 same-length c = search needs
