@@ -106,8 +106,9 @@ fn check_entry(front: &[u8], i: usize) -> FileAnswer
     FileAnswer::BadEntry(i)
 }
 
-// Body i against its entry, which has to be right in its edition.
-fn check_body(front: &[u8], i: usize, body: &[u8]) -> FileAnswer
+// Body i against its entry, which has to be right in its edition. Nothing is laid down, so the range of its block is not
+// looked at.
+pub fn check_body(front: &[u8], i: usize, body: &[u8]) -> FileAnswer
     ensures { λ r. ⌜ r ≡ fileAnswer (bodyTests (now (front .entry)) i (now (body .entry))) ⌝ }
 {
     let entry = check_entry(front, i);

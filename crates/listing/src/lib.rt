@@ -41,7 +41,7 @@ ghost use Rattle.lists.specs.Tab.{over};
 ghost use Rattle.places.specs.Sizes.{largestU64};
 ghost use Rattle.compare.specs.Changes.{differing as differingIn, changesIn};
 ghost use Rattle.wishes.specs.Runs.{held};
-ghost use Rattle.listing.specs.InnerSame.{SameBody};
+ghost use Rattle.listing.specs.InnerSame.{SameBody, sameLaid};
 ghost use Rattle.listing.specs.Text.{linesOf};
 ghost use Rattle.listing.specs.Machine.{turnOf, turnTo, refusal, startOf, mostTurns, askHead, askFront, bodyWish, atBody, atBodies, between as betweenBlocks, past as pastBlock, askBody, behind as behindFile, goTo, checkFront, checkBody, afterHead, afterFront, afterBody, begin as beginning, goOn, askAgain, listed, compared, bothLaid, bothThere, again as afterAgain, nextOf};
 
@@ -517,6 +517,9 @@ fn both_there(
             wish: Wish::Done,
         };
     }
+    if same_body(state.number, left_front, right_front, left_body, right_body) {
+        return pass_same(state, left_front, right_front, left_body, out);
+    }
     let mut left = [0u64; 1024];
     let mut right = [0u64; 1024];
     let mut places = [0u16; 1024];
@@ -533,8 +536,36 @@ fn both_there(
     )
 }
 
-// Lays both blocks down. A file that has changed since it was checked is refused. Where both files have the same body,
-// the right block is the left one, and no row differs.
+// Goes behind a block that both files have with the same entry and the same body: no row of it differs, and it is not
+// laid down. A body that is not as its entry says stands in files that have changed since they were checked.
+fn pass_same(
+    state: State,
+    left_front: &[u8],
+    right_front: &[u8],
+    left_body: &[u8],
+    out: &mut [u8],
+) -> Turn
+    requires { ⌜ 65536 ≤ length (now out) ⌝ }
+    ensures { λ r. ⌜
+        r
+        ≡ turnOf (sameLaid state (now («left_front» .entry)) (now («right_front» .entry)) (now («left_body» .entry))
+        (now (out .entry)))
+        ⌝ }
+    ensures { λ _. ⌜
+        now (out .exit)
+        ≡ sameLaid state (now («left_front» .entry)) (now («right_front» .entry)) (now («left_body» .entry))
+        (now (out .entry)) .out
+        ⌝ }
+{
+    let answer = bodywise::check_body(left_front, state.number, left_body);
+    if answer.number() != 0 {
+        return refuse(state, Side::Left, answer, out);
+    }
+    let there = past(state, left_front, right_front);
+    between(there, plus(state.differences, 0), 0)
+}
+
+// Lays both blocks down. A file that has changed since it was checked is refused.
 fn lay_both(
     state: State,
     left_front: &[u8],
@@ -565,9 +596,6 @@ fn lay_both(
     let answer = held_block(left_front, state.number, left_body, left);
     if answer.number() != 0 {
         return refuse(state, Side::Left, answer, out);
-    }
-    if same_body(state.number, left_front, right_front, left_body, right_body) {
-        return list(state, left_front, right_front, left, left, places, 0, out);
     }
     let answer = held_block(right_front, state.number, right_body, right);
     if answer.number() != 0 {

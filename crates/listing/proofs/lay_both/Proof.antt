@@ -1,12 +1,11 @@
--- `listing::lay_both` meets its contract, by the answers to both bodies, or to one where they are the same.
+-- `listing::lay_both` meets its contract, by the answers to both bodies.
 -- Assumes nothing.
 use mathlib.Core.Path.{_≡_, sym, ap, ap₂, _∙_}
 use denote.Ref.{now}
 use native.Mathlib.Omega.{arith}
-use Rattle.listing.specs.Machine.{turnOf, listed, compared}
+use Rattle.listing.specs.Machine.{turnOf, compared}
 use Rattle.listing.proofs.Stages.{left-laid-bad, right-laid-bad, laid-good}
 use Rattle.listing.proofs.Listed.{tests-same, laid-as}
-use Rattle.listing.proofs.Same.{none-many, none-noted, body-same}
 use borrow.Author.Needs.{needs}
 use Rattle.listing.proofs.lay_both.Statement.{statement}
 use Rattle.listing.proofs.lay_both.Tie as tie
@@ -32,11 +31,14 @@ returns c =
     let is = left-laid-bad (args .state) (now (args .left-front)) (now (args .right-front)) (now (args .out)) (now (args .left-body)) (now (args .right-body)) (tests-same (now (args .left-front)) (args .state .number) (now (args .left-body)) (now (args .left)) (c .before .before .before .before .before .before .before .before .before .before .before .before .before .before .before .before .before .before .pre .1 .0) (c .before .before .before .before .before .before .before .before .held-block .ensures .0)) (λ z. c .before .before .before .before .if1 .taken (c .before .before .before .before .before .number .ensures ∙ z)) in
     (c .before .before .refuse .ensures .0 ∙ sym (ap turnOf is), c .before .before .refuse .ensures .1 ∙ sym (ap (λ g. g .out) is))
 
-same-body-requires : tie.Need-same-body-requires
-same-body-requires c κs = search needs
+held-block-requires-2 : tie.Need-held-block-requires-2
+held-block-requires-2 c κs = search needs
 
-list-requires : tie.Need-list-requires
-list-requires c κs = (search needs, (none-many _, (omega arith, (none-noted _ _, c .before .before .before .before .before .before .before .before .before .before .before .before .before .before .before .before .before .before .before .pre .1 .1 .1 .1))))
+number-requires-2 : tie.Need-number-requires-2
+number-requires-2 c κs = search needs
+
+refuse-requires-2 : tie.Need-refuse-requires-2
+refuse-requires-2 c κs = search needs
 
 same-length-3 : tie.Need-same-length-3
 same-length-3 c = search needs
@@ -49,23 +51,12 @@ same-length-5 c = search needs
 
 returns-2 : tie.Need-returns-2
 returns-2 c =
-    let args = c .before .before .before .before .before .before .before .before .before .before .before .before .before .before .before .before .before .before .before .before .before .before .args in
-    let done = sym (c .before .before .before .before .before .before .before .before .before .number .ensures) ∙ c .before .before .before .before .before .before .before .before .if1 .left in
-    let tests = tests-same (now (args .left-front)) (args .state .number) (now (args .left-body)) (now (args .left)) (c .before .before .before .before .before .before .before .before .before .before .before .before .before .before .before .before .before .before .before .before .before .before .pre .1 .0) (c .before .before .before .before .before .before .before .before .before .before .before .before .held-block .ensures .0) in
-    let is = body-same (args .state) (now (args .left-front)) (now (args .right-front)) (now (args .out)) (now (args .left-body)) (now (args .right-body)) (c .before .before .before .before .before .before .before .same-body .ensures (c .before .before .before .before .before .before .if2 .taken)) tests done in
-    let left-is = laid-as (now (args .left-front)) (args .state .number) (now (args .left-body)) (now (args .left)) (c .before .before .before .before .before .before .before .before .before .before .before .before .before .before .before .before .before .before .before .before .before .before .pre .1 .0) (c .before .before .before .before .before .before .before .before .before .before .before .before .held-block .ensures .0) done (c .before .before .before .before .before .before .before .before .before .before .before .before .held-block .ensures .1) in (
-      c .before .before .list .ensures .0 ∙ ap (λ x. turnOf (listed (args .state) (now (args .left-front)) (now (args .right-front)) x x (now (args .out)))) left-is ∙ sym (ap turnOf is),
-      c .before .before .list .ensures .1 ∙ ap (λ x. listed (args .state) (now (args .left-front)) (now (args .right-front)) x x (now (args .out)) .out) left-is ∙ sym (ap (λ g. g .out) is),
-    )
+    let args = c .before .before .before .before .before .before .before .before .before .before .before .before .before .before .before .before .before .before .before .before .before .before .before .before .args in
+    let is = right-laid-bad (args .state) (now (args .left-front)) (now (args .right-front)) (now (args .out)) (now (args .left-body)) (now (args .right-body)) (tests-same (now (args .left-front)) (args .state .number) (now (args .left-body)) (now (args .left)) (c .before .before .before .before .before .before .before .before .before .before .before .before .before .before .before .before .before .before .before .before .before .before .before .before .pre .1 .0) (c .before .before .before .before .before .before .before .before .before .before .before .before .before .before .held-block .ensures .0)) (sym (c .before .before .before .before .before .before .before .before .before .before .before .number .ensures) ∙ c .before .before .before .before .before .before .before .before .before .before .if1 .left) (tests-same (now (args .right-front)) (args .state .number) (now (args .right-body)) (now (args .right)) (c .before .before .before .before .before .before .before .before .before .before .before .before .before .before .before .before .before .before .before .before .before .before .before .before .pre .1 .1 .0) (c .before .before .before .before .before .before .before .before .held-block2 .ensures .0)) (λ z. c .before .before .before .before .if2 .taken (c .before .before .before .before .before .number2 .ensures ∙ z)) in
+    (c .before .before .refuse2 .ensures .0 ∙ sym (ap turnOf is), c .before .before .refuse2 .ensures .1 ∙ sym (ap (λ g. g .out) is))
 
-held-block-requires-2 : tie.Need-held-block-requires-2
-held-block-requires-2 c κs = search needs
-
-number-requires-2 : tie.Need-number-requires-2
-number-requires-2 c κs = search needs
-
-refuse-requires-2 : tie.Need-refuse-requires-2
-refuse-requires-2 c κs = search needs
+compare-laid-requires : tie.Need-compare-laid-requires
+compare-laid-requires c κs = search needs
 
 same-length-6 : tie.Need-same-length-6
 same-length-6 c = search needs
@@ -76,69 +67,20 @@ same-length-7 c = search needs
 same-length-8 : tie.Need-same-length-8
 same-length-8 c = search needs
 
+same-length-9 : tie.Need-same-length-9
+same-length-9 c = search needs
+
 returns-3 : tie.Need-returns-3
 returns-3 c =
-    let args = c .before .before .before .before .before .before .before .before .before .before .before .before .before .before .before .before .before .before .before .before .before .before .before .before .before .before .args in
-    let is = right-laid-bad (args .state) (now (args .left-front)) (now (args .right-front)) (now (args .out)) (now (args .left-body)) (now (args .right-body)) (tests-same (now (args .left-front)) (args .state .number) (now (args .left-body)) (now (args .left)) (c .before .before .before .before .before .before .before .before .before .before .before .before .before .before .before .before .before .before .before .before .before .before .before .before .before .before .pre .1 .0) (c .before .before .before .before .before .before .before .before .before .before .before .before .before .before .before .before .held-block .ensures .0)) (sym (c .before .before .before .before .before .before .before .before .before .before .before .before .before .number .ensures) ∙ c .before .before .before .before .before .before .before .before .before .before .before .before .if1 .left) (tests-same (now (args .right-front)) (args .state .number) (now (args .right-body)) (now (args .right)) (c .before .before .before .before .before .before .before .before .before .before .before .before .before .before .before .before .before .before .before .before .before .before .before .before .before .before .pre .1 .1 .0) (c .before .before .before .before .before .before .before .before .held-block2 .ensures .0)) (λ z. c .before .before .before .before .if3 .taken (c .before .before .before .before .before .number2 .ensures ∙ z)) in
-    (c .before .before .refuse2 .ensures .0 ∙ sym (ap turnOf is), c .before .before .refuse2 .ensures .1 ∙ sym (ap (λ g. g .out) is))
-
-compare-laid-requires : tie.Need-compare-laid-requires
-compare-laid-requires c κs =
-    let pre = c .before .before .before .before .before .before .before .before .before .before .before .before .before .before .before .before .before .before .before .before .before .before .before .before .before .before .pre in
-    let left = c .before .before .before .before .before .before .before .before .before .before .before .before .before .before .slice-known5 in
-    let right = c .before .before .before .before .before .before .slice-known8 in
-    (search needs, (search (needs, pre .1 .0, left), (search (needs, pre .1 .1 .0, right), (search (needs, pre .1 .1 .1 .0), pre .1 .1 .1 .1))))
-
-same-length-9 : tie.Need-same-length-9
-same-length-9 c = search (needs, c .before .before .before .before .before .before .before .before .before .before .before .before .before .before .before .before .before .before .before .before .before .held-block .kept .1 .1 .1)
-
-same-length-10 : tie.Need-same-length-10
-same-length-10 c = search needs
-
-same-length-11 : tie.Need-same-length-11
-same-length-11 c = search needs
-
-same-length-12 : tie.Need-same-length-12
-same-length-12 c = search needs
-
-returns-4 : tie.Need-returns-4
-returns-4 c =
-    let args = c .before .before .before .before .before .before .before .before .before .before .before .before .before .before .before .before .before .before .before .before .before .before .before .before .before .before .before .before .before .before .before .args in
-    let left-done = sym (c .before .before .before .before .before .before .before .before .before .before .before .before .before .before .before .before .before .before .number .ensures) ∙ c .before .before .before .before .before .before .before .before .before .before .before .before .before .before .before .before .before .if1 .left in
-    let right-done = sym (c .before .before .before .before .before .before .before .before .before .before .number2 .ensures) ∙ c .before .before .before .before .before .before .before .before .before .if3 .left in
-    let is = laid-good (args .state) (now (args .left-front)) (now (args .right-front)) (now (args .out)) (now (args .left-body)) (now (args .right-body)) (tests-same (now (args .left-front)) (args .state .number) (now (args .left-body)) (now (args .left)) (c .before .before .before .before .before .before .before .before .before .before .before .before .before .before .before .before .before .before .before .before .before .before .before .before .before .before .before .before .before .before .before .pre .1 .0) (c .before .before .before .before .before .before .before .before .before .before .before .before .before .before .before .before .before .before .before .before .before .held-block .ensures .0)) left-done (tests-same (now (args .right-front)) (args .state .number) (now (args .right-body)) (now (args .right)) (c .before .before .before .before .before .before .before .before .before .before .before .before .before .before .before .before .before .before .before .before .before .before .before .before .before .before .before .before .before .before .before .pre .1 .1 .0) (c .before .before .before .before .before .before .before .before .before .before .before .before .before .held-block2 .ensures .0)) right-done in
-    let left-is = laid-as (now (args .left-front)) (args .state .number) (now (args .left-body)) (now (args .left)) (c .before .before .before .before .before .before .before .before .before .before .before .before .before .before .before .before .before .before .before .before .before .before .before .before .before .before .before .before .before .before .before .pre .1 .0) (c .before .before .before .before .before .before .before .before .before .before .before .before .before .before .before .before .before .before .before .before .before .held-block .ensures .0) left-done (c .before .before .before .before .before .before .before .before .before .before .before .before .before .before .before .before .before .before .before .before .before .held-block .ensures .1) in
-    let right-is = laid-as (now (args .right-front)) (args .state .number) (now (args .right-body)) (now (args .right)) (c .before .before .before .before .before .before .before .before .before .before .before .before .before .before .before .before .before .before .before .before .before .before .before .before .before .before .before .before .before .before .before .pre .1 .1 .0) (c .before .before .before .before .before .before .before .before .before .before .before .before .before .held-block2 .ensures .0) right-done (c .before .before .before .before .before .before .before .before .before .before .before .before .before .held-block2 .ensures .1) in (
+    let args = c .before .before .before .before .before .before .before .before .before .before .before .before .before .before .before .before .before .before .before .before .before .before .before .before .before .before .before .before .before .args in
+    let left-done = sym (c .before .before .before .before .before .before .before .before .before .before .before .before .before .before .before .before .number .ensures) ∙ c .before .before .before .before .before .before .before .before .before .before .before .before .before .before .before .if1 .left in
+    let right-done = sym (c .before .before .before .before .before .before .before .before .before .before .number2 .ensures) ∙ c .before .before .before .before .before .before .before .before .before .if2 .left in
+    let is = laid-good (args .state) (now (args .left-front)) (now (args .right-front)) (now (args .out)) (now (args .left-body)) (now (args .right-body)) (tests-same (now (args .left-front)) (args .state .number) (now (args .left-body)) (now (args .left)) (c .before .before .before .before .before .before .before .before .before .before .before .before .before .before .before .before .before .before .before .before .before .before .before .before .before .before .before .before .before .pre .1 .0) (c .before .before .before .before .before .before .before .before .before .before .before .before .before .before .before .before .before .before .before .held-block .ensures .0)) left-done (tests-same (now (args .right-front)) (args .state .number) (now (args .right-body)) (now (args .right)) (c .before .before .before .before .before .before .before .before .before .before .before .before .before .before .before .before .before .before .before .before .before .before .before .before .before .before .before .before .before .pre .1 .1 .0) (c .before .before .before .before .before .before .before .before .before .before .before .before .before .held-block2 .ensures .0)) right-done in
+    let left-is = laid-as (now (args .left-front)) (args .state .number) (now (args .left-body)) (now (args .left)) (c .before .before .before .before .before .before .before .before .before .before .before .before .before .before .before .before .before .before .before .before .before .before .before .before .before .before .before .before .before .pre .1 .0) (c .before .before .before .before .before .before .before .before .before .before .before .before .before .before .before .before .before .before .before .held-block .ensures .0) left-done (c .before .before .before .before .before .before .before .before .before .before .before .before .before .before .before .before .before .before .before .held-block .ensures .1) in
+    let right-is = laid-as (now (args .right-front)) (args .state .number) (now (args .right-body)) (now (args .right)) (c .before .before .before .before .before .before .before .before .before .before .before .before .before .before .before .before .before .before .before .before .before .before .before .before .before .before .before .before .before .pre .1 .1 .0) (c .before .before .before .before .before .before .before .before .before .before .before .before .before .held-block2 .ensures .0) right-done (c .before .before .before .before .before .before .before .before .before .before .before .before .before .held-block2 .ensures .1) in (
       c .before .before .before .before .compare-laid .ensures .0 ∙ ap₂ (λ x y. turnOf (compared (args .state) (now (args .left-front)) (now (args .right-front)) x y (now (args .out)))) left-is right-is ∙ sym (ap turnOf is),
       c .before .before .before .before .compare-laid .ensures .1 ∙ ap₂ (λ x y. compared (args .state) (now (args .left-front)) (now (args .right-front)) x y (now (args .out)) .out) left-is right-is ∙ sym (ap (λ g. g .out) is),
     )
 
 pub lay-both-spec : {M : Type 1} → statement M
-lay-both-spec =
-    tie.close
-    (tie.spec
-    held-block-requires
-    number-requires
-    refuse-requires
-    same-length
-    same-length-2
-    returns
-    same-body-requires
-    list-requires
-    same-length-3
-    same-length-4
-    same-length-5
-    returns-2
-    held-block-requires-2
-    number-requires-2
-    refuse-requires-2
-    same-length-6
-    same-length-7
-    same-length-8
-    returns-3
-    compare-laid-requires
-    same-length-9
-    same-length-10
-    same-length-11
-    same-length-12
-    returns-4)
+lay-both-spec = tie.close (tie.spec held-block-requires number-requires refuse-requires same-length same-length-2 returns held-block-requires-2 number-requires-2 refuse-requires-2 same-length-3 same-length-4 same-length-5 returns-2 compare-laid-requires same-length-6 same-length-7 same-length-8 same-length-9 returns-3)
