@@ -15,7 +15,7 @@ use runs::t64::decode;
 ghost use mathlib.Core.Path.{_≡_};
 ghost use mathlib.Core.Bool.{true};
 ghost use mathlib.Core.List.{[], _∷_};
-ghost use Prim.Native.Nat.{_+_, _*_, _≤_, _<_};
+ghost use Prim.Native.Nat.{_+_, _*_, _≤_, _<_, min, max};
 ghost use lib.ListN.{length};
 ghost use Rattle.lists.specs.Pick.{pick};
 ghost use Rattle.lists.specs.Ends.{highestOf, lowestOf};
@@ -59,26 +59,44 @@ pub fn block_of(e: Entry, body: &[u8], output: &mut [u64]) -> FileAnswer
 }
 
 // The smallest and the largest of the values, in one walk. Of no values they are the highest and the lowest of 64 bits.
+// Two values are joined first, so that half as many steps wait for the ones before them.
 pub fn range_of(values: &[u64]) -> Range
     ensures { λ r. ⌜ (r .smallest ≡ lowestOf (now (values .entry))) × (r .largest ≡ highestOf (now (values .entry))) ⌝ }
 {
+    let n = values.len() / 2;
     let mut low: u64 = u64::MAX;
     let mut high: u64 = 0;
     let mut i = 0;
-    while i < values.len() {
-        let value = values[i];
-        if value < low {
-            low = value;
-        }
-        if high < value {
-            high = value;
-        }
+    while i < n {
+        let a = values[i * 2];
+        let b = values[i * 2 + 1];
+        low = lower(low, lower(a, b));
+        high = higher(high, higher(a, b));
         i += 1;
+    }
+    if n * 2 < values.len() {
+        let value = values[n * 2];
+        low = lower(low, value);
+        high = higher(high, value);
     }
     Range {
         smallest: low,
         largest: high,
     }
+}
+
+// The smaller of two numbers.
+fn lower(a: u64, b: u64) -> u64
+    ensures { λ r. ⌜ r ≡ min a b ⌝ }
+{
+    if a < b { a } else { b }
+}
+
+// The larger of two numbers.
+fn higher(a: u64, b: u64) -> u64
+    ensures { λ r. ⌜ r ≡ max a b ⌝ }
+{
+    if a < b { b } else { a }
 }
 
 // Whether a range is the true one of the values.
