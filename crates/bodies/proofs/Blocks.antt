@@ -12,7 +12,7 @@ use lib.Pow.{pow-pos}
 use Rattle.lists.specs.Numbers.{plus, Elements}
 use Rattle.lists.specs.Tab.{tab}
 use Rattle.lists.proofs.Digits.{elements-of}
-use Rattle.lists.proofs.Tabs.{length-tab, getD-tab}
+use Rattle.lists.proofs.Tabs.{length-tab, getD-tab, is-tab}
 use Rattle.places.specs.Sizes.{t64, lanes}
 use Rattle.packing.specs.Packed.{unpackOf, valueAt}
 use Rattle.packing.proofs.Rounds.{length-unpack}
@@ -110,4 +110,16 @@ packed-value e body laid kind p h =
       | no k ↦
           ap (λ block. getD block p 0) (block-frame e body (omega arith))
           ∙ getD-tab 1024 (λ p. plus t64 (valueAt t64 w words p) (e .reference)) p 0 h
+    ]
+
+-- So both are unpacked with the reference added.
+pub block-raised : (e : Entry) (body : List ℕ) → isLaidOut e ≡ true → e .kind < 2
+    → blockOf e body ≡ unforPackOf t64 (e .width) (packedFrom body 0 (e .width)) (e .reference)
+unfolding unforPackOf
+block-raised e body laid kind =
+    elim (decLe (e .kind) 0) [
+      | yes k ↦
+          let long = ap length (block-packed e body (omega arith)) ∙ length-unpack t64 (e .width) (packedFrom body 0 (e .width)) in
+          is-tab (blockOf e body) 1024 _ 0 long (packed-value e body laid kind)
+      | no k ↦ block-frame e body (omega arith)
     ]

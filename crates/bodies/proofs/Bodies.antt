@@ -20,12 +20,8 @@ use Rattle.places.specs.declared.Answer.the-variants.{Done as NoRefusal, Dictio
 use Rattle.places.specs.Answers.{isDone}
 use Rattle.places.specs.Sizes.{t64, lanes}
 use Rattle.places.specs.Takes.{answerFor}
-use Rattle.packing.specs.Calls.{unpackLeaves}
 use Rattle.packing.specs.Packed.{unpackOf}
-use Rattle.packing.proofs.Answers.{unpack-leaves}
-use Rattle.deltas.specs.Calls.{unforPackLeaves, undeltaPackLeaves}
 use Rattle.deltas.specs.Deltas.{unforPackOf, undeltaPackOf}
-use Rattle.deltas.proofs.Answers.{unfor-pack-leaves, undelta-pack-leaves}
 use Rattle.runs.specs.Calls.{decodeTakes, decodeLeaves}
 use Rattle.runs.specs.Runs.{decodeOf}
 use Rattle.little.specs.Little.{readLeaves}
@@ -76,32 +72,6 @@ module _ (e : Entry) (body : List ℕ) where
   pub block-runs : e .kind ≡ 3 → blockOf e body ≡ decodeOf (wordsFrom body 2048 (valueCount e)) (runIndices body)
   unfolding blockOf
   block-runs k = rw k
-
-  -- The words of a packed body or of a frame are read whole, and unpacked they are the block.
-  module _ (words output : List ℕ) (w : e .width ≤ 64) (b : length body ≡ 128 * e .width) (l : length words ≡ 16 * e .width) (o : length output ≡ 1024) where
-    packed-read : readLeaves 8 body words ≡ packedFrom body 0 (e .width)
-    packed-read = numbers-read 8 body words (16 * e .width) l (omega arith)
-
-    pub packed-left : e .kind ≡ 0 → unpackLeaves t64 (e .width) output (readLeaves 8 body words) ≡ blockOf e body
-    packed-left k =
-        ap (unpackLeaves t64 (e .width) output) packed-read
-        ∙ unpack-leaves t64 (e .width) output (packedFrom body 0 (e .width)) w o (length-numbers 8 body (16 * e .width))
-        ∙ sym (block-packed k)
-
-    pub frame-left : e .kind ≡ 1 → unforPackLeaves t64 (e .width) output (readLeaves 8 body words) (e .reference) ≡ blockOf e body
-    frame-left k =
-        ap (λ x. unforPackLeaves t64 (e .width) output x (e .reference)) packed-read
-        ∙ unfor-pack-leaves t64 (e .width) output (packedFrom body 0 (e .width)) w o (length-numbers 8 body (16 * e .width)) (e .reference)
-        ∙ sym (block-frame k)
-
--- The base words and the packed differences are read whole, and summed up they are the block.
-pub differences-left : (w : ℕ) (body base words output : List ℕ) → w ≤ 64 → length body ≡ 128 + 128 * w → length base ≡ 16
-    → length words ≡ 16 * w → length output ≡ 1024
-    → undeltaPackLeaves t64 w output (readLeaves 8 (take (length body - 128) (drop 128 body)) words) (readLeaves 8 body base)
-    ≡ undeltaPackOf t64 w (packedFrom body 128 w) (wordsFrom body 0 (lanes t64))
-differences-left w body base words output h b s l o =
-    ap₂ (undeltaPackLeaves t64 w output) (words-read body words 128 (16 * w) l (omega arith)) (numbers-read 8 body base 16 s (omega arith))
-    ∙ undelta-pack-leaves t64 w output (packedFrom body 128 w) (wordsFrom body 0 16) h o (length-numbers 8 (drop 128 body) (16 * w)) (length-numbers 8 body 16)
 
 -- Every run index is below n exactly when the highest one is.
 pub indexed-high : (n : ℕ) (body : List ℕ) → indexed n body ≡ ltb (highestOf (runIndices body)) n

@@ -1,3 +1,4 @@
 pub mod Blocks
 pub mod Bodies
+pub mod Bytes
 pub mod Ranges

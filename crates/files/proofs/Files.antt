@@ -7,16 +7,18 @@ use mathlib.Core.Path.{_≡_, refl, sym, ap, ap₂, _∙_}
 use Prim.Native.Nat.{ℕ, _+_, _-_, _<_}
 use native.Mathlib.Omega.{arith}
 use lib.ListN.{length, take, drop, length-take, length-drop}
-use lib.Dec.{eqb}
-use borrow.Author.Tests.{le-leb, eq-eqb}
+use lib.Dec.{eqb, ltb}
+use borrow.Author.Tests.{le-leb, eq-eqb, ltb-true}
 use Rattle.lists.specs.Pick.{pick}
 use Rattle.lists.proofs.Search.{first-only}
 use Rattle.contents.specs.declared.FileAnswer.the-variants.{Done, Runs}
 use Rattle.contents.specs.Answers.{fileAnswer, isDone, left}
-use Rattle.contents.specs.Contents.{count, entryOf, bodyStart, contentsTests}
+use Rattle.contents.specs.Contents.{edition, count, entryOf, bodyStart, contentsTests}
+use Rattle.contents.proofs.Accepted.{whole-taken}
 use Rattle.contents.proofs.Answers.{passed, stopped, none-left}
 use Rattle.bodies.specs.Bodies.{blockOf, hasGoodRuns, bodyTests, blockTests, blockLeaves}
-use Rattle.bodywise.proofs.Told.{body-ends, body-laid}
+use Rattle.bodies.proofs.Bodies.{other-runs}
+use Rattle.bodywise.proofs.Told.{whole, body-ends, body-laid}
 use Rattle.files.specs.Files.{bodyOf, blockIn, badRuns}
 
 -- This test says that block i has its run indices in range.
@@ -39,6 +41,13 @@ left-picked true p new old = refl
 left-picked false p new old = refl
 
 module _ (l : List ℕ) (done : fileAnswer (contentsTests l (length l)) ≡ Done) where
+  -- In edition 2 no block has run indices.
+  pub second-good : edition l ≡ 2 → (i : ℕ) → i < count l → goodIn l i ≡ true
+  second-good second i h =
+      let taken = sym (ap (λ t. pick t (ltb (entryOf l i .kind) 3) true) (eq-eqb (edition l) 2 second)) ∙ whole-taken (whole l done) i h in
+      let below : entryOf l i .kind < 3 = ltb-true (entryOf l i .kind) 3 taken in
+      other-runs (entryOf l i) (bodyOf l i) (λ e. omega arith)
+
   module _ (i : ℕ) (h : i < count l) where
     pub body-long : length (bodyOf l i) ≡ entryOf l i .length
     unfolding bodyOf

@@ -11,7 +11,7 @@ use borrow.Author.Tests.{eq-eqb, le-leb}
 use Rattle.lists.specs.Pick.{pick}
 use Rattle.contents.specs.declared.FileAnswer.the-variants.{Done, Runs}
 use Rattle.contents.specs.Answers.{fileAnswer, isDone}
-use Rattle.contents.specs.Contents.{edition, count, entryOr, rangeOf, bodyStart, contentsTests}
+use Rattle.contents.specs.Contents.{edition, count, entryOr, rangeOf, rangeOr, bodyStart, contentsTests}
 use Rattle.bodies.specs.Bodies as Bodies
 use Rattle.bodies.specs.Ranges.{isRange}
 use Rattle.files.specs.Files.{bodyOf, blockIn, hasTrueRange}
@@ -48,9 +48,14 @@ module _ (l : List ℕ) (right : fileAnswer (contentsTests l (length l)) ≡ Don
     pub from-block : goodIn l i ≡ true → fromLeaves l i at output ≡ blockIn l i
     from-block good = from-left ∙ ap (λ t. pick t (blockIn l i) output) good
 
-  -- In edition 2 its range is then held to the block.
+    -- In edition 2 its range is then held to the block, in any output of the right length,
+    pub true-in-is : edition l ≡ 2 → goodIn l i ≡ true → isRange (rangeOr l i) (fromLeaves l i at output) ≡ hasTrueRange l i
+    unfolding hasTrueRange
+    true-in-is second good =
+        ap₂ isRange (range-read l right i h) (from-block good)
+        ∙ sym (ap (λ t. pick t (isRange (rangeOf l i) (blockIn l i)) true) (eq-eqb (edition l) 2 second))
+
+  -- and so over zeros.
   pub true-from-is : edition l ≡ 2 → goodIn l i ≡ true → trueFrom l i at ≡ hasTrueRange l i
-  unfolding trueFrom hasTrueRange
-  true-from-is second good =
-      ap₂ isRange (range-read l right i h) (from-block (replicate 1024 0) refl good)
-      ∙ sym (ap (λ t. pick t (isRange (rangeOf l i) (blockIn l i)) true) (eq-eqb (edition l) 2 second))
+  unfolding trueFrom
+  true-from-is = true-in-is (replicate 1024 0) refl

@@ -9,9 +9,9 @@ use mathlib.Core.Path.{_≡_, refl, sym, ap, ap₂, subst, _∙_}
 use Prim.Native.Nat.{ℕ, zero, suc, _≤_, _<_}
 use native.Mathlib.Decide.{decLe, ℕ-discrete}
 use native.Mathlib.Omega.{arith}
-use lib.Dec.{eqb, ltb}
+use lib.Dec.{eqb}
 use lib.ListN.{length}
-use borrow.Author.Tests.{eq-eqb, ne-eqb, ltb-true}
+use borrow.Author.Tests.{eq-eqb, ne-eqb}
 use Rattle.lists.specs.Pick.{pick}
 use Rattle.lists.specs.Search.{firstBad}
 use Rattle.lists.proofs.Tests.{false-true}
@@ -19,18 +19,15 @@ use Rattle.lists.proofs.Search.{first-only}
 use Rattle.contents.specs.declared.FileAnswer.{FileAnswer}
 use Rattle.contents.specs.declared.FileAnswer.the-variants.{Done, Runs, Range}
 use Rattle.contents.specs.Answers.{fileAnswer, numberOf, left}
-use Rattle.contents.specs.Contents.{edition, count, entryOf, entryOr, rangeOf, contentsTests}
-use Rattle.contents.proofs.Accepted.{whole-taken}
+use Rattle.contents.specs.Contents.{edition, count, entryOr, rangeOf, contentsTests}
 use Rattle.contents.proofs.Answers.{passed, stopped, none-left, in-front-done, in-front-refused, number-done}
 use Rattle.bodies.specs.Bodies as Bodies
 use Rattle.bodies.specs.Bodies.{blockOf}
 use Rattle.bodies.specs.Ranges.{isRange}
-use Rattle.bodies.proofs.Bodies.{other-runs}
 use Rattle.files.specs.Chosen.{chosenAfter}
 use Rattle.files.specs.Files as Files
 use Rattle.files.specs.Files.{bodyOf, blockIn, badRuns, badRange, fileTests}
-use Rattle.bodywise.proofs.Told.{whole}
-use Rattle.files.proofs.Files.{goodIn, body-tested}
+use Rattle.files.proofs.Files.{goodIn, body-tested, second-good}
 use Rattle.files.proofs.Ranges.{contents-right, runs-good, file-runs, ranges-true}
 use Rattle.bodywise.specs.InnerPlaced.{inBlock}
 use Rattle.bodywise.specs.Steps.{hasTrueRange, bodyTests, heldTests, heldLeaves, rangeTests, stepOf, frontOf, answerAfter}
@@ -54,7 +51,7 @@ picked-same false e = refl
 -- ---- one body, behind contents that are right
 
 module _ (l front : List ℕ) (held : Front l front) (done : fileAnswer (contentsTests l (length l)) ≡ Done) where
-  -- No file has both: a range that is not the true one is of edition 2,
+  -- No file has both: a range that is not the true one is of edition 2, in which no block has run indices.
   range-second : (p : ℕ) → Files.hasTrueRange l p ≡ false → edition l ≡ 2
   unfolding Files.hasTrueRange
   range-second p e =
@@ -62,13 +59,6 @@ module _ (l front : List ℕ) (held : Front l front) (done : fileAnswer (content
         | yes second ↦ second
         | no other ↦ absurd (false-true (sym e ∙ ap (λ t. pick t (isRange (rangeOf l p) (blockIn l p)) true) (ne-eqb (edition l) 2 other)))
       ]
-
-  -- in which no block has run indices.
-  second-good : edition l ≡ 2 → (i : ℕ) → i < count l → goodIn l i ≡ true
-  second-good second i h =
-      let taken = sym (ap (λ t. pick t (ltb (entryOf l i .kind) 3) true) (eq-eqb (edition l) 2 second)) ∙ whole-taken (whole l done) i h in
-      let below : entryOf l i .kind < 3 = ltb-true (entryOf l i .kind) 3 taken in
-      other-runs (entryOf l i) (bodyOf l i) (λ e. omega arith)
 
   module _ (n : ℕ) (h : n < count l) where
     body-answer : {t : Bool} → goodIn l n ≡ t → fileAnswer (bodyTests front n (bodyOf l n)) ≡ pick t Done (Runs n)
@@ -190,7 +180,7 @@ module _ (l front : List ℕ) (held : Front l front) (which : ℕ → Bool) wher
     far-all (some-range p b t before) =
         let found : p ≡ firstBad (count l) ranged = first-only (count l) p ranged (omega arith) before (λ _. t) in
         let second = range-second l front held done p (picked-false (which p) t) in
-        sym (passed _ _ (eq-eqb (firstBad (count l) good) (count l) (all-good (λ i h. picked-true (which i) (second-good l front held done second i h))))
+        sym (passed _ _ (eq-eqb (firstBad (count l) good) (count l) (all-good (λ i h. picked-true (which i) (second-good l done second i h))))
         ∙ stopped _ _ (ne-eqb (firstBad (count l) ranged) (count l) (λ e. omega arith))
         ∙ ap Range (sym found))
     far-all (all-right goods ranges) =

@@ -28,8 +28,9 @@ ghost use Rattle.places.specs.Sizes.{t64};
 ghost use Rattle.access.specs.Counts.{countAt};
 ghost use Rattle.contents.specs.declared.FileAnswer.the-variants.{Done, Runs, Range};
 ghost use Rattle.contents.specs.Answers.{fileAnswer, numberOf};
-ghost use Rattle.contents.specs.Contents.{edition as editionIn, count as countIn, entryOf, bodyStart, contentsTests, ContentsTaken};
+ghost use Rattle.contents.specs.Contents.{edition as editionIn, count as countIn, entryOf, rangeOr, bodyStart, contentsTests, ContentsTaken};
 ghost use Rattle.bodies.specs.Bodies.{hasGoodRuns};
+ghost use Rattle.bodies.specs.Ranges.{isRange};
 ghost use Rattle.files.specs.declared.Row.the-variants.{Counted, Uncounted, Refused};
 ghost use Rattle.files.specs.Files.{bodyOf, blockIn, badRange, fileTests, blockOutTests, blockOutLeaves};
 ghost use Rattle.files.specs.Froms.{bodyFrom, goodFrom, fromTests, fromLeaves, trueFrom};
@@ -76,9 +77,10 @@ fn false_range(file: &[u8]) -> usize
     ensures { λ r. ⌜ r ≡ badRange (now (file .entry)) ⌝ }
 {
     let n = count(file);
+    let mut block = [0u64; 1024];
     let mut body = bodywise::first(file);
     while body.number < n {
-        if !is_true_from(file, body.number, body.at) {
+        if !is_true_in(file, body.number, body.at, &mut block) {
             return body.number;
         }
         let next = bodywise::next(file, body);
@@ -126,7 +128,7 @@ fn check_but(file: &[u8], b: usize) -> FileAnswer
 }
 
 // The lowest block other than b that has a run index out of range, and the count where there is none, in a file whose
-// contents are right. The body of block b is not read.
+// contents are right. The body of block b is not read. In edition 2 no block has run indices, and no body is read.
 fn first_bad_but(file: &[u8], b: usize) -> usize
     requires { ⌜ ContentsTaken (now file) ⌝ }
     ensures { λ r. ⌜
@@ -136,6 +138,9 @@ fn first_bad_but(file: &[u8], b: usize) -> usize
         ⌝ }
 {
     let n = count(file);
+    if edition(file) == 2 {
+        return n;
+    }
     let mut body = bodywise::first(file);
     while body.number < n {
         if body.number != b {
@@ -187,8 +192,16 @@ pub fn is_true_from(file: &[u8], i: usize, at: usize) -> bool
     ensures { λ r. ⌜ r ≡ trueFrom (now (file .entry)) i at ⌝ }
 {
     let mut block = [0u64; 1024];
-    block_from(file, i, at, &mut block);
-    is_range(range_or(file, i), &block)
+    is_true_in(file, i, at, &mut block)
+}
+
+// The same in a lent block, so that a walk over the bodies sets one to zeros and not one for each.
+pub fn is_true_in(file: &[u8], i: usize, at: usize, block: &mut [u64]) -> bool
+    ensures { λ r. ⌜ r ≡ isRange (rangeOr (now (file .entry)) i) (fromLeaves (now (file .entry)) i at (now (block .entry))) ⌝ }
+    ensures { λ _. ⌜ now (block .exit) ≡ fromLeaves (now (file .entry)) i at (now (block .entry)) ⌝ }
+{
+    block_from(file, i, at, block);
+    is_range(range_or(file, i), block)
 }
 
 // Where body b begins, in a file whose contents are right.

@@ -10,6 +10,7 @@ use Rattle.lists.specs.Pick.{pick}
 use Rattle.contents.specs.declared.FileAnswer.the-variants.{Runs}
 use Rattle.contents.specs.Answers.{fileAnswer}
 use Rattle.contents.proofs.Laid.{laid-differences, laid-runs, laid-kind}
+use Rattle.bodies.proofs.Blocks.{block-raised}
 use Rattle.bodies.proofs.Bodies.{laid-plain, block-differences, block-runs, other-done, runs-runs}
 use Rattle.bodies.proofs.lay_down.Statement.{statement}
 use Rattle.bodies.proofs.lay_down.Tie as tie
@@ -39,12 +40,15 @@ runs-out-requires c κs =
     let laid = laid-runs (start .args .e) (start .pre .0) (arm .match .keys2) in
     (laid .2, (start .pre .1 .0 ∙ laid .0, search needs))
 
-packed-out-requires : tie.Need-packed-out-requires
-packed-out-requires c κs =
-    let start = c .before .before .before .before in
+cast-raised-out : tie.Need-cast-raised-out
+cast-raised-out c = search needs
+
+raised-out-requires : tie.Need-raised-out-requires
+raised-out-requires c κs =
+    let start = c .before .before .before .before .before in
     let low : start .args .e .kind < 2 = omega (arith, laid-kind (start .args .e) (start .pre .0)) in
     let laid = laid-plain (start .args .e) (start .pre .0) low in
-    ((low, laid .0), (start .pre .1 .0 ∙ laid .1, search needs))
+    (laid .0, (start .pre .1 .0 ∙ laid .1, search needs))
 
 same-length : tie.Need-same-length
 same-length c = search needs
@@ -80,8 +84,11 @@ same-length-3 c = search needs
 returns-3 : tie.Need-returns-3
 returns-3 c =
     let out = c .before .before in
-    let args = out .before .before .before .before .before .args in
-    other-done (args .e) (now (args .body)) _ (now (args .output)) (λ k. omega arith) (out .packed-out .ensures)
+    let start = out .before .before .before .before .before .before in
+    let e = start .args .e in
+    let body = now (start .args .body) in
+    let low : e .kind < 2 = omega (arith, laid-kind e (start .pre .0)) in
+    other-done e body _ (now (start .args .output)) (λ k. omega arith) (out .raised-out .ensures ∙ sym (block-raised e body (start .pre .0) low))
 
 pub lay-down-spec : {M : Type 1} → statement M
 lay-down-spec =
@@ -92,7 +99,8 @@ lay-down-spec =
     sub-runs-out
     cast-runs-out
     runs-out-requires
-    packed-out-requires
+    cast-raised-out
+    raised-out-requires
     same-length
     returns
     same-length-2
