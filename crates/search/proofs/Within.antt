@@ -2,15 +2,15 @@
 -- lies between the bounds where it is no further above the lower one than the upper one is.
 -- Assumes nothing.
 use mathlib.Core.Bool.{Bool, true, false}
-use mathlib.Core.List.{List, [], _∷_, _++_}
+use mathlib.Core.List.{List, [], _∷_, _++_, map}
 use mathlib.Core.Path.{_≡_, refl, sym, ap, ap₂, _∙_}
 use Prim.Native.Nat.{ℕ, zero, suc, _+_, _-_, _*_, _%_, _≤_, _<_}
-use native.Mathlib.Nat.{add-zero, add-assoc, mod-eq-of-lt}
+use native.Mathlib.Nat.{zero-add, add-zero, add-assoc, mod-eq-of-lt}
 use native.Mathlib.Numerals.{add-one}
 use native.Mathlib.Omega.{arith}
 use mir.Val.{boolByte}
 use lib.Dec.{eqb, leb}
-use lib.ListN.{length, getD, take, set}
+use lib.ListN.{length, getD, take, set, length-map, List·getD-map}
 use lib.Seq.{take-set-le}
 use borrow.Author.Tests.{eqb-true, leb-true, leb-false, le-leb, lt-leb}
 use Rattle.lists.specs.Pick.{pick, both}
@@ -19,10 +19,10 @@ use Rattle.lists.specs.Passing.{passing}
 use Rattle.lists.specs.Ends.{lowestOf, highestOf}
 use Rattle.lists.proofs.Tests.{both-true}
 use Rattle.lists.specs.Numbers.{plus}
-use Rattle.lists.proofs.Tabs.{tab-snoc, tab-ext, getD-tab, Written, written-none, written-length, written-run}
+use Rattle.lists.proofs.Tabs.{tab-snoc, tab-ext, tab-getD, getD-tab, Written, written-none, written-length, written-run}
 use Rattle.places.specs.Sizes.{t64}
 use Rattle.rows.specs.Rows.{addOf, splatOf}
-use Rattle.lists.proofs.Passing.{one, passing-none-yet, passing-next}
+use Rattle.lists.proofs.Passing.{one, passing-none-yet, passing-next, passing-ext, passing-moved, map-passing}
 use Rattle.lists.proofs.Lows.{lowest-bound}
 use Rattle.lists.proofs.Highs.{highest-bound}
 use Rattle.contents.specs.declared.FileAnswer.the-variants.{Done}
@@ -34,7 +34,7 @@ use Rattle.files.specs.Files.{blockIn, hasTrueRange}
 use Rattle.search.specs.Search.{between}
 use Rattle.search.specs.Steps.{inBlock, foundIn}
 use Rattle.search.specs.InnerBlocks.{withinBy}
-use Rattle.search.proofs.Blocks.{in-long}
+use Rattle.search.proofs.Blocks.{in-block, in-long}
 use Rattle.search.proofs.Listing.{more-pass, same-pass}
 
 -- Where every number passes, those that pass are all.
@@ -179,3 +179,24 @@ numbered-next {first} {k} {j} {x} {run} {y} before h room more z step s e f =
             is = f ∙ ap (λ r. over (k + j) r y) (before .next ∙ tab-ext 16 _ _ 0 (λ l _. add-assoc first j l));
           });
     }
+
+-- A block that begins with row 0 has its places for rows.
+pub zero-at : (block : List ℕ) (low high p : ℕ) → inBlock block 0 low high p ≡ between low high (getD block p 0)
+zero-at block low high p = ap (inBlock block 0 low high) (sym (zero-add p)) ∙ in-block block 0 low high p
+
+-- The rows of a block are its places, each as much higher as the block begins.
+pub rows-of-places : (block : List ℕ) (first low high : ℕ) → length block ≡ 1024 → first + 1024 < 18446744073709551616
+    → map (plus 64 first) (foundIn block 0 low high) ≡ foundIn block first low high
+unfolding plus
+rows-of-places block first low high long h =
+    map-passing (plus 64 first) (λ p. first + p) (inBlock block 0 low high) 0 (length block) (λ p a b. mod-eq-of-lt (omega arith))
+    ∙ ap (map (λ p. first + p))
+    (passing-ext 0 (length block) (inBlock block 0 low high) (λ p. inBlock block first low high (first + p)) (λ p a b. sym (in-block block first low high p ∙ sym (zero-at block low high p))))
+    ∙ sym (passing-moved first 0 (length block) (inBlock block first low high))
+    ∙ ap (λ s. passing s (length block) (inBlock block first low high)) (add-zero first)
+
+-- A list by a rule for the entries of another one.
+pub tab-map : (f : ℕ → ℕ) (x : List ℕ) → tab (length x) (λ i. f (getD x i 0)) ≡ map f x
+tab-map f x =
+    tab-ext (length x) (λ i. f (getD x i 0)) (λ i. getD (map f x) i (f 0)) 0 (λ i _. sym (List·getD-map f x i 0))
+    ∙ tab-getD (map f x) (f 0) (length x) (length-map x f)

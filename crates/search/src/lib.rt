@@ -15,15 +15,18 @@ use contents::edition;
 use contents::range_or;
 use files::block_from;
 use files::is_good_from;
-use files::is_true_from;
+use files::is_true_in;
 use rows::t64::splat;
 use rows::t64::store;
 use rows::t64::wrapping_add;
+use std::num::wrapping_add_u64;
 use std::num::wrapping_sub_u64;
+ghost use mathlib.Core.List.{map};
 ghost use mathlib.Core.Path.{_≡_};
 ghost use Prim.Native.Nat.{_+_, _*_, _≤_, _<_};
 ghost use lib.Dec.{leb};
 ghost use lib.ListN.{length, take};
+ghost use Rattle.lists.specs.Numbers.{plus};
 ghost use Rattle.lists.specs.Tab.{tab, over};
 ghost use Rattle.contents.specs.Answers.{fileAnswer};
 ghost use Rattle.contents.specs.Contents.{edition as editionIn, count as countIn, bodyStart, ContentsTaken};
@@ -170,10 +173,11 @@ fn lowest_bad(file: &[u8], low: u64, high: u64, ranges: bool) -> usize
     ensures { λ r. ⌜ r ≡ badIn (now (file .entry)) low high ranges ⌝ }
 {
     let n = count(file);
+    let mut block = [0u64; 1024];
     let mut body = bodywise::first(file);
     while body.number < n {
         if opens(file, body.number, low, high) {
-            if !is_as_asked(file, body.number, body.at, ranges) {
+            if !is_as_asked(file, body.number, body.at, ranges, &mut block) {
                 return body.number;
             }
         }
@@ -184,16 +188,18 @@ fn lowest_bad(file: &[u8], low: u64, high: u64, ranges: bool) -> usize
 }
 
 // Whether block i, whose body begins at `at`, is as asked: has the range that its entry says, or its run indices in
-// range.
-fn is_as_asked(file: &[u8], i: usize, at: usize, ranges: bool) -> bool
+// range. `block` is room for it.
+fn is_as_asked(file: &[u8], i: usize, at: usize, ranges: bool, block: &mut [u64]) -> bool
     requires { ⌜ ContentsTaken (now file) ⌝ }
     requires { ⌜ i < countIn (now file) ⌝ }
     requires { ⌜ at ≡ bodyStart (now file) i ⌝ }
     requires { ⌜ (ranges ≡ true → (editionIn (now file) ≡ 2) × (asked (now file) false i ≡ true)) ⌝ }
+    requires { ⌜ length (now block) ≡ 1024 ⌝ }
     ensures { λ r. ⌜ r ≡ asked (now (file .entry)) ranges i ⌝ }
+    ensures { λ _. ⌜ length (now (block .exit)) ≡ 1024 ⌝ }
 {
     if ranges {
-        return is_true_from(file, i, at);
+        return is_true_in(file, i, at, block);
     }
     is_good_from(file, i, at)
 }
@@ -432,20 +438,19 @@ fn list_block(
     ensures { λ _. ⌜ length (now (found .exit)) ≡ 1024 ⌝ }
     ensures { λ _. ⌜ now (rows .exit) ≡ over k (foundIn (now (block .entry)) first low high) (now (rows .entry)) ⌝ }
 {
-    let n = gather(block, first, low, high, found);
-    put_rows(&found[..n], k, rows);
+    let n = gather(block, low, high, found);
+    put_rows(&found[..n], first, k, rows);
     k + n
 }
 
-// Gathers the rows of the block whose value lies between the bounds at the front of `found`, and gives how many they are.
-// Every row is written, and the next one over it where it is not found: so there is no branch for a row. A value lies
-// between the bounds where it is no further above the lower one, modulo 2^64, than the upper one is.
-fn gather(block: &[u64], first: usize, low: u64, high: u64, found: &mut [u64]) -> usize
+// Gathers the places of the block whose value lies between the bounds at the front of `found`, and gives how many they
+// are. Every place is written, and the next one over it where its value does not lie there: so there is no branch for a
+// place. A value lies between the bounds where it is no further above the lower one, modulo 2^64, than the upper one is.
+fn gather(block: &[u64], low: u64, high: u64, found: &mut [u64]) -> usize
     requires { ⌜ length (now block) ≡ 1024 ⌝ }
     requires { ⌜ length (now found) ≡ 1024 ⌝ }
-    requires { ⌜ first + 1024 < 18446744073709551616 ⌝ }
-    ensures { λ n. ⌜ n ≡ length (foundIn (now (block .entry)) first low high) ⌝ }
-    ensures { λ n. ⌜ take n (now (found .exit)) ≡ foundIn (now (block .entry)) first low high ⌝ }
+    ensures { λ n. ⌜ n ≡ length (foundIn (now (block .entry)) 0 low high) ⌝ }
+    ensures { λ n. ⌜ take n (now (found .exit)) ≡ foundIn (now (block .entry)) 0 low high ⌝ }
     ensures { λ _. ⌜ length (now (found .exit)) ≡ 1024 ⌝ }
 {
     if high < low {
@@ -453,23 +458,28 @@ fn gather(block: &[u64], first: usize, low: u64, high: u64, found: &mut [u64]) -
     }
     let span = high - low;
     let mut n = 0;
-    let mut j = 0;
-    while j < 1024 {
-        found[n] = (first + j) as u64;
-        n += (wrapping_sub_u64(block[j], low) <= span) as usize;
-        j += 1;
+    let mut o = 0;
+    while o < 128 {
+        let mut i = 0;
+        while i < 8 {
+            let j = o * 8 + i;
+            found[n] = j as u64;
+            n += (wrapping_sub_u64(block[j], low) <= span) as usize;
+            i += 1;
+        }
+        o += 1;
     }
     n
 }
 
-// Copies rows into the room, from place k on.
-fn put_rows(part: &[u64], k: usize, rows: &mut [u64])
-    requires { ⌜ k + length (now part) ≤ length (now rows) ⌝ }
-    ensures { λ _. ⌜ now (rows .exit) ≡ over k (now (part .entry)) (now (rows .entry)) ⌝ }
+// Writes the rows of these places of a block that begins with row `first` into the room, from place k on.
+fn put_rows(places: &[u64], first: usize, k: usize, rows: &mut [u64])
+    requires { ⌜ k + length (now places) ≤ length (now rows) ⌝ }
+    ensures { λ _. ⌜ now (rows .exit) ≡ over k (map (plus 64 first) (now (places .entry))) (now (rows .entry)) ⌝ }
 {
     let mut q = 0;
-    while q < part.len() {
-        rows[k + q] = part[q];
+    while q < places.len() {
+        rows[k + q] = wrapping_add_u64(first as u64, places[q]);
         q += 1;
     }
 }

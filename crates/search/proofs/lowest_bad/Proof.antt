@@ -2,10 +2,11 @@
 -- Assumes nothing.
 use mathlib.Core.Bool.{true, false}
 use mathlib.Core.Logic.{⊎-elim}
-use mathlib.Core.Path.{_≡_, sym, ap, _∙_}
+use mathlib.Core.Path.{_≡_, refl, sym, ap, _∙_}
 use Prim.Native.Nat.{ℕ, _+_, _-_, _<_}
 use native.Mathlib.Omega.{arith}
 use denote.Ref.{now}
+use lib.ListN.{length}
 use borrow.Author.Needs.{needs}
 use borrow.Author.Tests.{not-true, not-false}
 use Rattle.lists.specs.Pick.{pick}
@@ -20,11 +21,14 @@ use Rattle.search.proofs.lowest_bad.Statement.{statement}
 use Rattle.search.proofs.lowest_bad.Tie as tie
 
 abbrev Inv-loop : tie.InvT-loop
-Inv-loop file low high ranges n body₀ body =
-    Walking file body × (n ≡ count file) × ((k : ℕ) → k < body .number → pick (opens file low high k) (asked file ranges k) true ≡ true)
+Inv-loop file low high ranges n block₀ body₀ block body =
+    Walking file body
+    × (n ≡ count file)
+    × ((k : ℕ) → k < body .number → pick (opens file low high k) (asked file ranges k) true ≡ true)
+    × (length block ≡ 1024)
 
 abbrev μ-loop : tie.MeasureT-loop
-μ-loop file low high ranges n body₀ body = n - body .number
+μ-loop file low high ranges n block₀ body₀ block body = n - body .number
 
 -- what was asked of the contents
 opened-is : (c : tie.After-opens Inv-loop μ-loop) → c .opens .result ≡ opens (now (c .before .before .before .before .before .before .before .args .file)) (c .before .before .before .before .before .before .before .args .low) (c .before .before .before .before .before .before .before .args .high) (c .before .before .before .loop .body .number)
@@ -40,8 +44,8 @@ passed-over c =
     let args = at-loop .before .before .before .before .args in
     let is = asked (now (args .file)) (args .ranges) (at-loop .loop .body .number) in
     ⊎-elim
-    (λ w. ap (λ t. pick t is true) (sym (opened-is (c .before)) ∙ w .0 .taken) ∙ sym (w .1 .ensures) ∙ not-false _ (w .2 .left))
-    (λ w. ap (λ t. pick t is true) (sym (opened-is (c .before)) ∙ w .left))
+    (λ w. ap (λ t. pick t is true) (sym (opened-is (c .before)) ∙ w .0 .taken) ∙ sym (w .2 .ensures .0) ∙ not-false _ (w .4 .left))
+    (λ w. ap (λ t. pick t is true) (sym (opened-is (c .before)) ∙ w .0 .left))
     (c .if2 .came)
 
 -- one body further
@@ -61,14 +65,18 @@ loop-holds : tie.Need-loop-holds Inv-loop μ-loop
 loop-holds c =
     let start = c .before .before .before in
     let l = now (start .args .file) in
-    (file-first l (start .pre .0) (c .first .ensures), c .before .count .ensures ∙ count-read l (start .pre .0), file-none l (start .pre .0) (c .first .ensures) _)
+    (file-first l (start .pre .0) (c .first .ensures), c .before .count .ensures ∙ count-read l (start .pre .0), file-none l (start .pre .0) (c .first .ensures) _, refl)
 
 opens-requires : tie.Need-opens-requires Inv-loop μ-loop
 opens-requires c κs = search needs
 
+slice-aggregate-is-as-asked : tie.Need-slice-aggregate-is-as-asked Inv-loop μ-loop
+slice-aggregate-is-as-asked c = search needs
+
 is-as-asked-requires : tie.Need-is-as-asked-requires Inv-loop μ-loop
 is-as-asked-requires c κs =
-    let asking = c .before in
+    let shown = c .before in
+    let asking = shown .before in
     let at-loop = asking .before .before .before in
     let start = at-loop .before .before .before .before in
     let l = now (start .args .file) in
@@ -79,21 +87,25 @@ is-as-asked-requires c κs =
         there,
         (
           at-loop .loop .inv .0 .start,
-          (λ e. (start .pre .1 e .0, opened-asked l (start .args .low) (start .args .high) false (start .pre .1 e .1) i there (sym (opened-is asking) ∙ c .if2 .taken))),
+          (
+            (λ e. (start .pre .1 e .0, opened-asked l (start .args .low) (start .args .high) false (start .pre .1 e .1) i there (sym (opened-is asking) ∙ shown .if2 .taken))),
+            at-loop .loop .inv .3,
+          ),
         ),
       ),
     )
 
 returns : tie.Need-returns Inv-loop μ-loop
 returns c =
-    let tested = c .before in
-    let asking = tested .before .before in
+    let tested = c .before .before in
+    let shown = tested .before .before in
+    let asking = shown .before in
     let at-loop = asking .before .before .before in
     let args = at-loop .before .before .before .before .args in
     let l = now (args .file) in
     let i = at-loop .loop .body .number in
     first-only (count l) i (λ k. pick (opens l (args .low) (args .high) k) (asked l (args .ranges) k) true) (at-loop .loop .inv .0 .within) (at-loop .loop .inv .2)
-    (λ _. ap (λ t. pick t (asked l (args .ranges) i) true) (sym (opened-is asking) ∙ tested .before .if2 .taken) ∙ sym (tested .is-as-asked .ensures) ∙ not-true _ (c .if3 .taken))
+    (λ _. ap (λ t. pick t (asked l (args .ranges) i) true) (sym (opened-is asking) ∙ shown .if2 .taken) ∙ sym (tested .is-as-asked .ensures .0) ∙ not-true _ (c .if3 .taken))
 
 next-requires : tie.Need-next-requires Inv-loop μ-loop
 next-requires c κs = search needs
@@ -112,6 +124,7 @@ loop-again c =
       file-next l (start .pre .0) (omega arith) walk more (c .next .ensures),
       at-loop .loop .inv .1,
       file-passed l (start .pre .0) (omega arith) walk more (c .next .ensures) (at-loop .loop .inv .2) (passed-over joined),
+      ⊎-elim (λ w. ap length (w .5) ∙ w .2 .ensures .1) (λ w. ap length (w .1) ∙ at-loop .loop .inv .3) (joined .if2 .came),
     )
 
 returns-2 : tie.Need-returns-2 Inv-loop μ-loop
@@ -134,6 +147,7 @@ lowest-bad-spec =
     first-requires
     loop-holds
     opens-requires
+    slice-aggregate-is-as-asked
     is-as-asked-requires
     returns
     next-requires
