@@ -339,6 +339,14 @@ void fascjoldi_body_first(const uint8_t *front, size_t front_length, size_t *num
    what stands behind the front, and says nothing. A body without an entry counts as one of no bytes. */
 void fascjoldi_body_next(const uint8_t *front, size_t front_length, size_t *number, size_t *start, uint32_t *length);
 
+/* Gives the number at one row of a column file out of the body with that number, which begins at that start, and in how many
+   packed words it stands, 2^64 - 1 where there is no such count; refused, the value is 0. The file is not checked: of a file that
+   was, and of a body that fascjoldi_body_first and fascjoldi_body_next gave, the answer is that of fascjoldi_file_row_at. 8 where
+   the body does not all stand in the file, then 10 with its number where its entry is not right, 12 where the row is not of its
+   block, and 13 with its number where one of its run indices is out of range. */
+size_t fascjoldi_file_row_from(const uint8_t *file, size_t file_length, size_t number, size_t start, size_t row, uint64_t *value,
+    uint64_t *words, size_t *place);
+
 /* Says whether a search between two bounds opens a block, by the front of the file: the bodies of the other blocks need not be
    read. In edition 1 every block is opened, and a block that the front has no entry of is where the lower bound is not above the
    upper one. */

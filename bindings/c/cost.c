@@ -25,6 +25,7 @@ enum {
     FRONT_CHECK = 200, /* the contents checked */
     PASS = 201,        /* the file checked, and then each block laid down by its body */
     RECALL = 202,      /* the last row of a file that was checked before, out of its block laid down by its body */
+    ROW = 203,         /* one row after another of the last block of a file that was checked before, looked up in its body */
     NO_CALL = 255,
     BLOCK = 1024,
     DRAWER = 16,
@@ -88,7 +89,7 @@ AT_SIZE(u8, uint8_t, 8)
 /* A column file, the values that it holds, and room for what is made of it. */
 static uint64_t values[MOST * BLOCK], rows[BLOCK];
 static uint8_t file[MOST * 2400 + 8196], made[sizeof file];
-static size_t file_length, front_length;
+static size_t file_length, front_length, last_start, last_row;
 
 /* A block for which the writer chooses the kind, at width 17: numbers that go up and down, with 0 among them; the same numbers far above
    0; or lanes that rise by one and the same number. */
@@ -146,6 +147,7 @@ static int fill_file(const struct request *r)
     }
     front_length = 4 + blocks * entry;
     file_length = front_length + blocks * body;
+    last_start = file_length - (blocks == 0 ? 0 : body), last_row = (blocks == 0 ? 0 : blocks - 1) * BLOCK;
     return 1;
 }
 
@@ -177,7 +179,6 @@ static size_t call_file(const struct request *r, size_t turn)
     const uint64_t high = blocks == 1 ? ~(uint64_t)0 : 0;
     size_t place, found, opened, answer;
     uint64_t value, count;
-    (void)turn;
     switch (r->op) {
     case FRONT_CHECK: return fascjoldi_front_check(file, front_length, file_length, &place);
     case 16: return fascjoldi_file_check(file, file_length, &place);
@@ -193,6 +194,9 @@ static size_t call_file(const struct request *r, size_t turn)
     case 22: return fascjoldi_file_check_canonical(file, file_length, &place);
     case PASS: return pass();
     case RECALL: return by_body(blocks - 1, file_length - body, body) + (out_u64[BLOCK - 1] != values[BLOCK - 1]);
+    case ROW:
+        answer = fascjoldi_file_row_from(file, file_length, blocks - 1, last_start, last_row + turn % BLOCK, &value, &count, &place);
+        return answer + (value != values[turn % BLOCK]);
     default: return 1;
     }
 }

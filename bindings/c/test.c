@@ -234,6 +234,45 @@ static void walk(void)
     expect("no room, blocks", opened, 0);
 }
 
+/* Rows of a file of two blocks by their bodies: 9 at row 3, else seven. Then a file of one body of runs, with one run value. */
+static void rows_by_body(void)
+{
+    static uint64_t two[2048];
+    size_t number = 77, start = 77, written = 77;
+    uint64_t value = 77, words = 77;
+    uint32_t length = 77;
+    for (size_t i = 0; i < 2048; i++) {
+        two[i] = i == 3 ? 9 : 7;
+    }
+    expect("two blocks written", fascjoldi_file_write(two, 2048, file, sizeof file, &written, &place), FASCJOLDI_DONE);
+    expect("two blocks' length", written, 324);
+    fascjoldi_body_first(file, written, &number, &start, &length);
+    expect("row 3 by its body", fascjoldi_file_row_from(file, 324, number, start, 3, &value, &words, &place), FASCJOLDI_DONE);
+    expect("row 3 by its body, value", value, 9);
+    expect("row 3 by its body, words", words, 1);
+    expect("a row of the next block", fascjoldi_file_row_from(file, 324, number, start, 1027, &value, &words, &place), FASCJOLDI_BEYOND);
+    expect("a row of the next block, value", value, 0);
+    expect("a row of the next block, words", words, FASCJOLDI_NO_COUNT);
+    expect("a body behind the end", fascjoldi_file_row_from(file, 324, number, start + 1, 3, &value, &words, &place), FASCJOLDI_CUT);
+    expect("no such entry", fascjoldi_file_row_from(file, 324, 11, start, 3, &value, &words, &place), FASCJOLDI_BAD_ENTRY);
+    expect("no such entry, place", place, 11);
+    fascjoldi_body_next(file, written, &number, &start, &length);
+    expect("row 1027", fascjoldi_file_row_from(file, 324, number, start, 1027, &value, &words, &place), FASCJOLDI_DONE);
+    expect("row 1027, value", value, 7);
+    expect("row 1027, words", words, 0);
+    file[52] = 8;
+    expect("smallest above largest", fascjoldi_file_row_from(file, 324, number, start, 1027, &value, &words, &place), FASCJOLDI_BAD_ENTRY);
+    expect("smallest above largest, place", place, 1);
+    memset(file, 0, 2076);
+    file[0] = 1, file[2] = 1, file[4] = 3, file[8] = 8, file[9] = 8, file[2068] = 5;
+    expect("a row of runs", fascjoldi_file_row_from(file, 2076, 0, 20, 1023, &value, &words, &place), FASCJOLDI_DONE);
+    expect("a row of runs, value", value, 5);
+    expect("a row of runs, words", words, FASCJOLDI_NO_COUNT);
+    file[1420] = 1;
+    expect("another run index", fascjoldi_file_row_from(file, 2076, 0, 20, 1023, &value, &words, &place), FASCJOLDI_RUNS);
+    expect("another run index, place", place, 0);
+}
+
 /* The same file by its front and its one body, as a program asks that never holds a whole file. */
 static void fronts(void)
 {
@@ -263,6 +302,7 @@ static void fronts(void)
     expect("body's numbers", (uint64_t)memcmp(values64, out64, 8192), 0);
     expect("range checked", fascjoldi_body_check_range(nine, 36, 0, values64, 1024, &place), FASCJOLDI_DONE);
     walk();
+    rows_by_body();
     values64[5] = 10;
     expect("range refused", fascjoldi_body_check_range(nine, 36, 0, values64, 1024, &place), FASCJOLDI_RANGE);
 }

@@ -172,6 +172,15 @@ pub fn next_body(front: &[u8], mut body: Body) -> Body {
     body
 }
 
+/// The number at one row of a column file, out of a body of it. The file is not checked: of one that was, and of a body that `first_body` and
+/// `next_body` gave, this is what `row_at` gives. A body that does not all stand in the file is refused with 8, one whose entry is not right with 10,
+/// a row of another block with 12, and a run index out of range with 13.
+pub fn row_from(file: &[u8], body: Body, row: usize) -> Result<Row, Refused> {
+    let (mut value, mut words) = (0, 0);
+    asked!(columns::file_row_from(file.as_ptr(), file.len(), body.number, body.start, row, &mut value, &mut words)
+        gives Row { value, words: counted(words) })
+}
+
 /// Whether a search between two bounds opens a block, by the front of the file: the bodies of the other blocks need not be read.
 pub fn search_opens(front: &[u8], block: usize, low: u64, high: u64) -> bool {
     unsafe { sys::columns::search_opens(front.as_ptr(), front.len(), block, low, high) }

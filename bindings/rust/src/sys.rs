@@ -268,6 +268,9 @@ pub mod columns {
         pub fn body_first(front: *const u8, front_length: usize, number: &mut usize, start: &mut usize, length: &mut u32);
         #[link_name = "fascjoldi_body_next"]
         pub fn body_next(front: *const u8, front_length: usize, number: &mut usize, start: &mut usize, length: &mut u32);
+        #[link_name = "fascjoldi_file_row_from"]
+        pub fn file_row_from(file: *const u8, file_length: usize, number: usize, start: usize, row: usize, value: &mut u64,
+            words: &mut u64, place: &mut usize) -> usize;
         #[link_name = "fascjoldi_search_opens"]
         pub fn search_opens(front: *const u8, front_length: usize, block: usize, low: u64, high: u64) -> bool;
         #[link_name = "fascjoldi_search_rows"]

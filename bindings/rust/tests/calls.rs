@@ -180,6 +180,39 @@ fn a_file_is_searched_by_its_front_and_one_body() {
 }
 
 #[test]
+fn a_row_is_looked_up_in_its_body() {
+    let (mut values, mut room) = ([7; 2048], [0; 400]);
+    values[3] = 9;
+    let length = files::write(&values, &mut room).unwrap();
+    assert_eq!(length, 4 + 2 * 32 + 128 * 2);
+    let file = &mut room[..length];
+    let first = files::first_body(file);
+    let second = files::next_body(file, first);
+    let row = files::row_from(file, first, 3).unwrap();
+    assert_eq!((row.value, row.words), (9, Some(1)));
+    let row = files::row_from(file, second, 1027).unwrap();
+    assert_eq!((row.value, row.words), (7, Some(0)));
+    assert_eq!(files::row_from(file, first, 1027), refused(12, 0));
+    assert_eq!(files::row_from(file, files::Body { start: first.start + 1, ..first }, 3), refused(8, 0));
+    assert_eq!(files::row_from(file, files::Body { number: 11, ..first }, 3), refused(10, 11));
+    file[52] = 8; // the smallest number that the second entry says, above its largest
+    assert_eq!(files::row_from(file, second, 1027), refused(10, 1));
+    assert!(files::row_from(file, first, 3).is_ok());
+}
+
+#[test]
+fn a_row_of_runs_is_looked_up_where_all_indices_are_in_range() {
+    let mut file = [0; 20 + 2048 + 8];
+    file[..10].copy_from_slice(&[1, 0, 1, 0, 3, 0, 0, 0, 8, 8]);
+    file[2068] = 5;
+    let body = files::first_body(&file);
+    let row = files::row_from(&file, body, 1023).unwrap();
+    assert_eq!((row.value, row.words), (5, None));
+    file[20 + 2 * 700] = 1;
+    assert_eq!(files::row_from(&file, body, 1023), refused(13, 0));
+}
+
+#[test]
 fn files_are_refused() {
     let mut output = [77; 1024];
     assert_eq!(files::check(&SEVENS_1[..3]), refused(8, 0));

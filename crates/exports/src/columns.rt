@@ -24,6 +24,7 @@ use contents::range_or;
 use files::Row;
 use files::block_out;
 use files::row_at;
+use files::row_from;
 use rewrite::rewrite;
 use search::Found;
 use search::opens;
@@ -36,7 +37,7 @@ ghost use Prim.Native.Nat.{_*_, min};
 ghost use Rattle.contents.specs.Answers.{fileAnswer};
 ghost use Rattle.contents.specs.Contents.{contentsSize, contentsTests, editionOr, countOr, entryOr, rangeOr};
 ghost use Rattle.files.specs.Files.{fileTests, blockOutTests, blockOutLeaves};
-ghost use Rattle.files.specs.Rows.{rowOf};
+ghost use Rattle.files.specs.Rows.{rowOf, rowFrom};
 ghost use Rattle.writer.specs.Writer.{writtenOf, fileLeaves};
 ghost use Rattle.search.specs.Search.{foundOf, searchLeaves};
 ghost use Rattle.search.specs.Steps.{opensBy, listedOf, listedLeaves};
@@ -326,6 +327,29 @@ pub extern "C" fn fascjoldi_body_next(
         ⌝ }
 {
     hand_body(behind(front, *number, *start), number, start, length);
+}
+
+// Gives the number at one row of a column file out of the body with that number, which begins at that start, and in how
+// many packed words it stands, 2^64 - 1 where there is no such count; refused, the value is 0. The file is not checked:
+// of a file that was, and of a body that fascjoldi_body_first and fascjoldi_body_next gave, the answer is that of
+// fascjoldi_file_row_at. 8 where the body does not all stand in the file, then 10 with its number where its entry is
+// not right, 12 where the row is not of its block, and 13 with its number where one of its run indices is out of range.
+#[no_mangle]
+pub extern "C" fn fascjoldi_file_row_from(
+    file: &[u8],
+    number: usize,
+    start: usize,
+    row: usize,
+    value: &mut u64,
+    words: &mut Words,
+    place: &mut usize,
+) -> usize
+    ensures { λ r. ⌜
+        RowHanded (rowFrom (now (file .entry)) number start row) r (now (value .exit)) (now (words .exit))
+        (now (place .exit))
+        ⌝ }
+{
+    hand_row(row_from(file, number, start, row), value, words, place)
 }
 
 // Says whether a search between two bounds opens a block, by the front of the file: the bodies of the other blocks need

@@ -7,7 +7,7 @@ use Prim.Native.Nat.{ℕ, _/_, _%_, _≤_, _<_}
 use native.Mathlib.Decide.{decLt}
 use native.Mathlib.Omega.{arith}
 use lib.Dec.{ltb}
-use lib.ListN.{length, getD, replicate}
+use lib.ListN.{length, replicate}
 use borrow.Author.Tests.{lt-ltb, le-ltb, eq-eqb, ne-eqb}
 use Rattle.lists.specs.Tests.{unless}
 use Rattle.lists.specs.Pick.{pick}
@@ -17,7 +17,7 @@ use Rattle.contents.specs.Answers.{FileTest, fileAnswer, numberOf, isDone, left
 use Rattle.contents.specs.Contents.{count, entryOf, entryOr, isLaidOut, contentsTests}
 use Rattle.contents.proofs.Accepted.{whole-laid, done-front}
 use Rattle.contents.proofs.Answers.{passed, stopped, none-left, in-front-done, in-front-refused}
-use Rattle.files.specs.declared.Row.the-variants.{Uncounted, Refused}
+use Rattle.files.specs.declared.Row.the-variants.{Refused}
 use Rattle.files.specs.Files.{rowCount, rowAt, blockIn, badRange, fileTests, blockOutTests, blockOutLeaves, rowTests}
 use Rattle.files.specs.Rows.{given, rowOf}
 use Rattle.bodywise.proofs.Told.{whole, entry-read}
@@ -58,17 +58,6 @@ module _ (l : List ℕ) (b : ℕ) (output : List ℕ) where
 
       pub block-done : b < count l → fileAnswer (blockOutTests l b output) ≡ Done
       block-done h = number-left ∙ passed _ _ (lt-ltb b (count l) h) ∙ none-left
-
--- What a row of a block that is laid down gives, by whether it was laid down.
-module _ (a : FileAnswer) (b : ℕ) where
-  pub laid-refused : (t : Bool) (v : ℕ) → a ≡ pick t Done (Runs b) → (numberOf a ≡ 0 → ⊥) → Refused a ≡ pick t (Uncounted v) (Refused (Runs b))
-  laid-refused true v e refused = absurd (refused (ap numberOf e))
-  laid-refused false v e refused = ap Refused e
-
-  pub laid-found : (t : Bool) (q : ℕ) (block old left : List ℕ) → a ≡ pick t Done (Runs b) → left ≡ pick t block old → numberOf a ≡ 0
-      → Uncounted (getD left q 0) ≡ pick t (Uncounted (getD block q 0)) (Refused (Runs b))
-  laid-found true q block old left e is done = ap (λ x. Uncounted (getD x q 0)) is
-  laid-found false q block old left e is done = absurd (omega (arith, sym done ∙ ap numberOf e))
 
 module _ (l : List ℕ) where
   -- Where the contents are right, every other block is good and every range the true one, block b decides.

@@ -4,6 +4,7 @@ pub mod Froms
 pub mod Held
 pub mod Lookups
 pub mod Others
+pub mod Places
 pub mod Ranges
 pub mod Exactly
 pub mod Recalled

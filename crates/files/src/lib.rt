@@ -2,25 +2,29 @@
 // A file is lent as bytes. check, block_out and row_at check the whole file before they answer for a block or a row, by
 // the steps that stand in crates of their own: the contents against the file's length, each body against its entry, and
 // in edition 2 the smallest and the largest value of each block against what its entry says. Of an edition 1 file none
-// of them reads a body twice; of an edition 2 file each lays every block down once for its smallest and largest value,
-// and one block out, as the lookup of a row of kind 2, lays its block down once more. A row of kind 0 or 1 is looked up
-// in its body. The four calls whose names end in from are for a walk over the bodies, behind a check: they look at one
-// body, and check nothing else.
+// of them reads a body twice, but one of runs for a row; of an edition 2 file each lays every block down once for its
+// smallest and largest value, and one block out lays its block down once more. A row is looked up in its body. The calls
+// whose names end in from are for a walk over the bodies, behind a check: they look at one body, and check nothing else.
 mod lookup;
 
 use access::Words;
 use bodies::is_range;
+use contents::Entry;
 use contents::FileAnswer;
 use contents::count;
 use contents::edition;
 use contents::entry_or;
+use contents::has_right_entry;
 use contents::range_or;
 use lookup::look_up;
+use lookup::run_value;
+use lookup::sum_up;
 use std::num::wrapping_add_u64;
 ghost use mathlib.Core.Path.{_≡_};
+ghost use mathlib.Core.Bool.{true};
 ghost use mathlib.Core.List.{[], _∷_};
-ghost use Prim.Native.Nat.{_<_};
-ghost use lib.Dec.{eqb};
+ghost use Prim.Native.Nat.{_+_, _<_};
+ghost use lib.Dec.{eqb, leb};
 ghost use lib.ListN.{length, getD};
 ghost use Rattle.lists.specs.Pick.{pick, either};
 ghost use Rattle.lists.specs.Search.{firstBad};
@@ -28,14 +32,14 @@ ghost use Rattle.places.specs.Sizes.{t64};
 ghost use Rattle.access.specs.Counts.{countAt};
 ghost use Rattle.contents.specs.declared.FileAnswer.the-variants.{Done, Runs, Range};
 ghost use Rattle.contents.specs.Answers.{fileAnswer, numberOf};
-ghost use Rattle.contents.specs.Contents.{edition as editionIn, count as countIn, entryOf, rangeOr, bodyStart, contentsTests, ContentsTaken};
-ghost use Rattle.bodies.specs.Bodies.{hasGoodRuns};
+ghost use Rattle.contents.specs.Contents.{edition as editionIn, count as countIn, entryOf, rangeOr, bodyStart, contentsTests, ContentsTaken, isLaidOut};
+ghost use Rattle.bodies.specs.Bodies.{blockOf, hasGoodRuns};
 ghost use Rattle.bodies.specs.Ranges.{isRange};
 ghost use Rattle.files.specs.declared.Row.the-variants.{Counted, Uncounted, Refused};
 ghost use Rattle.files.specs.Files.{bodyOf, blockIn, badRange, fileTests, blockOutTests, blockOutLeaves};
 ghost use Rattle.files.specs.Froms.{bodyFrom, goodFrom, fromTests, fromLeaves, trueFrom};
 ghost use Rattle.files.specs.InnerRuns.{runsTests};
-ghost use Rattle.files.specs.Rows.{answerOf, valueOf, rowOf};
+ghost use Rattle.files.specs.Rows.{answerOf, valueOf, given, rowOf, rowFrom};
 
 // Checks the whole file.
 pub fn check(file: &[u8]) -> FileAnswer
@@ -312,7 +316,8 @@ impl Row {
     }
 }
 
-// The value at row p of the file, place p mod 1,024 of block p / 1,024, and its count of packed words.
+// The value at row p of the file, place p mod 1,024 of block p / 1,024, and its count of packed words: the check, and
+// then the lookup in the row's body.
 pub fn row_at(file: &[u8], p: usize) -> Row
     ensures { λ r. ⌜ r ≡ rowOf (now (file .entry)) p ⌝ }
 {
@@ -324,47 +329,83 @@ pub fn row_at(file: &[u8], p: usize) -> Row
     if count(file) <= b {
         return Row::Refused(FileAnswer::Beyond);
     }
-    let e = entry_or(file, b);
-    if e.kind < 2 {
-        return packed_row(file, b, p % 1024);
-    }
-    laid_row(file, b, p % 1024)
+    row_from(file, b, body_start(file, b), p)
 }
 
-// The value at a place of block b, which is packed or a frame: what the lookup in its body gives, and the reference is
-// added. A packed block has the reference 0.
-fn packed_row(file: &[u8], b: usize, place: usize) -> Row
-    requires { ⌜ ContentsTaken (now file) ⌝ }
-    requires { ⌜ b < countIn (now file) ⌝ }
-    requires { ⌜ entryOf (now file) b .kind < 2 ⌝ }
+// The value at row p of the file out of the body of entry i that begins at `at`, and its count of packed words. No more
+// is looked at than that entry, the words that hold the value, and of a body of runs its indices: this is for a file
+// that was checked before, and a cursor of the walk over its bodies.
+pub fn row_from(file: &[u8], i: usize, at: usize, p: usize) -> Row
+    ensures { λ r. ⌜ r ≡ rowFrom (now (file .entry)) i at p ⌝ }
+{
+    let e = entry_or(file, i);
+    let size = e.length as usize;
+    if !holds(file.len(), at, size) {
+        return Row::Refused(FileAnswer::Cut);
+    }
+    if !has_right_entry(file, i) {
+        return Row::Refused(FileAnswer::BadEntry(i));
+    }
+    if p / 1024 != i {
+        return Row::Refused(FileAnswer::Beyond);
+    }
+    let end = at + size;
+    row_in(e, &file[at..end], i, p % 1024)
+}
+
+// Whether `size` bytes from `at` on lie within n bytes.
+fn holds(n: usize, at: usize, size: usize) -> bool
+    ensures { λ r. ⌜ r ≡ leb (at + size) n ⌝ }
+{
+    (size <= n) && (at <= n - size)
+}
+
+// The value at a place of block i, whose entry is as laid out and whose body is as long as that says.
+fn row_in(e: Entry, body: &[u8], i: usize, place: usize) -> Row
+    requires { ⌜ isLaidOut e ≡ true ⌝ }
+    requires { ⌜ length (now body) ≡ e .length ⌝ }
     requires { ⌜ place < 1024 ⌝ }
     ensures { λ r. ⌜
         r
-        ≡ Counted (getD (blockIn (now (file .entry)) b) place 0)
-        (countAt t64 (entryOf (now (file .entry)) b .width) place)
+        ≡ pick (hasGoodRuns e (now (body .entry))) (given e place (getD (blockOf e (now (body .entry))) place 0)) (Refused
+        (Runs i))
         ⌝ }
 {
-    let e = entry_or(file, b);
-    let at = body_start(file, b);
-    let found = look_up(e.width as usize, body_from(file, b, at), place);
+    let kind = e.kind;
+    match kind {
+        2 => Row::Uncounted(sum_up(e.width as usize, body, place)),
+        3 => run_row(e, body, i, place),
+        _ => packed_row(e, body, place),
+    }
+}
+
+// The value at a place of a body that is packed or a frame: what the lookup gives, and the reference is added. A packed
+// block has the reference 0.
+fn packed_row(e: Entry, body: &[u8], place: usize) -> Row
+    requires { ⌜ isLaidOut e ≡ true ⌝ }
+    requires { ⌜ e .kind < 2 ⌝ }
+    requires { ⌜ length (now body) ≡ e .length ⌝ }
+    requires { ⌜ place < 1024 ⌝ }
+    ensures { λ r. ⌜ r ≡ Counted (getD (blockOf e (now (body .entry))) place 0) (countAt t64 (e .width) place) ⌝ }
+{
+    let found = look_up(e.width as usize, body, place);
     Row::Counted(wrapping_add_u64(found.value, e.reference), found.words)
 }
 
-// The value at a place of block b, which is of another kind: the block is laid down.
-fn laid_row(file: &[u8], b: usize, place: usize) -> Row
-    requires { ⌜ ContentsTaken (now file) ⌝ }
-    requires { ⌜ b < countIn (now file) ⌝ }
+// The value at a place of a body of runs, all of whose run indices are looked at.
+fn run_row(e: Entry, body: &[u8], i: usize, place: usize) -> Row
+    requires { ⌜ isLaidOut e ≡ true ⌝ }
+    requires { ⌜ e .kind ≡ 3 ⌝ }
+    requires { ⌜ length (now body) ≡ e .length ⌝ }
     requires { ⌜ place < 1024 ⌝ }
     ensures { λ r. ⌜
         r
-        ≡ pick (hasGoodRuns (entryOf (now (file .entry)) b) (bodyOf (now (file .entry)) b))
-        (Uncounted (getD (blockIn (now (file .entry)) b) place 0)) (Refused (Runs b))
+        ≡ pick (hasGoodRuns e (now (body .entry))) (Uncounted (getD (blockOf e (now (body .entry))) place 0)) (Refused
+        (Runs i))
         ⌝ }
 {
-    let mut block = [0u64; 1024];
-    let answer = lay_numbered(file, b, &mut block);
-    if answer.number() != 0 {
-        return Row::Refused(answer);
+    if bodies::check(e, body).number() != 0 {
+        return Row::Refused(FileAnswer::Runs(i));
     }
-    Row::Uncounted(block[place])
+    Row::Uncounted(run_value(body, place))
 }

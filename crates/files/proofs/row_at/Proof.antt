@@ -1,27 +1,24 @@
--- `files::row_at` meets its contract: each refusal by its test, and the value by the kind of its block.
+-- `files::row_at` meets its contract: each refusal by its test, and the value by the lookup in its body.
 -- Assumes nothing.
 use mathlib.Core.List.{List}
-use mathlib.Core.Path.{_≡_, refl, sym, ap, ap₂, _∙_}
+use mathlib.Core.Path.{_≡_, refl, sym, ap, _∙_}
 use Prim.Native.Nat.{ℕ, _/_, _%_, _≤_, _<_}
 use native.Mathlib.Omega.{arith}
 use denote.Ref.{now}
 use lib.ListN.{length, replicate}
 use borrow.Author.Needs.{needs}
-use borrow.Author.Tests.{lt-ltb, le-ltb}
 use Rattle.lists.specs.Pick.{pick}
-use Rattle.places.specs.Sizes.{t64}
-use Rattle.access.specs.Counts.{countAt}
 use Rattle.contents.specs.declared.FileAnswer.the-variants.{Done, Beyond, Runs}
 use Rattle.contents.specs.Answers.{numberOf, fileAnswer}
 use Rattle.contents.specs.Contents.{count, entryOf, contentsTests}
-use Rattle.bodies.proofs.Bodies.{other-runs}
-use Rattle.files.specs.declared.Row.the-variants.{Counted, Uncounted, Refused}
-use Rattle.files.specs.Files.{bodyOf, badRange, rowAt}
+use Rattle.files.specs.declared.Row.the-variants.{Refused}
+use Rattle.files.specs.Files.{badRange, rowAt}
 use Rattle.files.specs.Rows.{given, rowOf}
 use Rattle.files.proofs.Calls.{block-refused, block-beyond, file-done, row-as-block, row-refused, row-decides}
-use Rattle.bodywise.proofs.Told.{count-read, entry-read}
+use Rattle.bodywise.proofs.Told.{count-read}
 use Rattle.files.proofs.Files.{goodIn}
 use Rattle.files.proofs.Others.{badBut}
+use Rattle.files.proofs.Places.{from-file}
 use Rattle.files.proofs.row_at.Statement.{statement}
 use Rattle.files.proofs.row_at.Tie as tie
 
@@ -45,13 +42,6 @@ count-is c =
 -- the block is there
 there : (c : tie.Else2) → c .before .before .before .before .before .before .args .p / 1024 < count (now (c .before .before .before .before .before .before .args .file))
 there c = omega (arith, count-is (c .before), c .if2 .left)
-
--- the entry that was read
-entry-is : (c : tie.After-entry-or) → c .entry-or .result ≡ entryOf (now (c .before .before .before .before .before .before .before .args .file)) (c .before .before .before .before .before .before .before .args .p / 1024)
-entry-is c =
-    let start = c .before .before .before .before .before .before .before in
-    let l = now (start .args .file) in
-    c .entry-or .ensures ∙ entry-read l (rest (c .before .before .before) .0) (start .args .p / 1024) (there (c .before))
 
 -- what the row gives, by its block
 decides : (c : tie.Else2) → rowOf (now (c .before .before .before .before .before .before .args .file)) (c .before .before .before .before .before .before .args .p) ≡ pick (goodIn (now (c .before .before .before .before .before .before .args .file)) (c .before .before .before .before .before .before .args .p / 1024)) (given (entryOf (now (c .before .before .before .before .before .before .args .file)) (c .before .before .before .before .before .before .args .p / 1024)) (c .before .before .before .before .before .before .args .p % 1024) (rowAt (now (c .before .before .before .before .before .before .args .file)) (c .before .before .before .before .before .before .args .p))) (Refused (Runs (c .before .before .before .before .before .before .args .p / 1024)))
@@ -91,48 +81,22 @@ returns-2 c =
     let done = file-done l (p / 1024) (others .0) (others .1 .0) (others .1 .1) (λ h. absurd (omega arith)) in
     sym (row-refused l p Beyond (row-as-block l p zeros refl ∙ block-beyond l (p / 1024) zeros refl done high) (λ e. omega arith))
 
-entry-or-requires : tie.Need-entry-or-requires
-entry-or-requires c κs = search needs
+body-start-requires : tie.Need-body-start-requires
+body-start-requires c κs = (rest (c .before .before) .0, there c)
 
-packed-row-requires : tie.Need-packed-row-requires
-packed-row-requires c κs =
-    let at = c .before .before .before in
-    (rest (at .before .before) .0, (there at, (omega (arith, ap (λ e. e .kind) (entry-is (c .before .before)), c .if3 .taken), omega arith)))
+row-from-requires : tie.Need-row-from-requires
+row-from-requires c κs = search needs
 
 returns-3 : tie.Need-returns-3
 unfolding rowAt
 returns-3 c =
-    let at = c .before .before .before .before in
+    let started = c .before in
+    let at = started .before in
     let start = at .before .before .before .before .before .before in
-    let l = now (start .args .file) in
     let p = start .args .p in
-    let e = entryOf l (p / 1024) in
-    let kind : e .kind < 2 = omega (arith, ap (λ e. e .kind) (entry-is (c .before .before .before)), c .before .if3 .taken) in
-    c .packed-row .ensures
-    ∙ sym
-    (decides at
-    ∙ ap₂ (λ good few. pick good (pick few (Counted (rowAt l p) (countAt t64 (e .width) (p % 1024))) (Uncounted (rowAt l p))) (Refused (Runs (p / 1024))))
-    (other-runs e (bodyOf l (p / 1024)) (λ three. omega arith))
-    (lt-ltb (e .kind) 2 kind))
-
-laid-row-requires : tie.Need-laid-row-requires
-laid-row-requires c κs =
-    let at = c .before .before .before in
-    (rest (at .before .before) .0, (there at, omega arith))
-
-returns-4 : tie.Need-returns-4
-unfolding rowAt
-returns-4 c =
-    let at = c .before .before .before .before in
-    let start = at .before .before .before .before .before .before in
-    let l = now (start .args .file) in
-    let p = start .args .p in
-    let e = entryOf l (p / 1024) in
-    let kind : 2 ≤ e .kind = omega (arith, ap (λ e. e .kind) (entry-is (c .before .before .before)), c .before .if3 .left) in
-    c .laid-row .ensures
-    ∙ sym
-    (decides at
-    ∙ ap (λ few. pick (goodIn l (p / 1024)) (pick few (Counted (rowAt l p) (countAt t64 (e .width) (p % 1024))) (Uncounted (rowAt l p))) (Refused (Runs (p / 1024)))) (le-ltb (e .kind) 2 kind))
+    c .row-from .ensures
+    ∙ from-file (now (start .args .file)) (rest (at .before .before) .0) (p / 1024) _ p (there at) (started .body-start .ensures) refl
+    ∙ sym (decides at)
 
 pub row-at-spec : {M : Type 1} → statement M
 row-at-spec =
@@ -143,8 +107,6 @@ row-at-spec =
     returns
     count-requires
     returns-2
-    entry-or-requires
-    packed-row-requires
-    returns-3
-    laid-row-requires
-    returns-4)
+    body-start-requires
+    row-from-requires
+    returns-3)
