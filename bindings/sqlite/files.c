@@ -264,7 +264,7 @@ void reader_close(struct reader *reader)
     reader->fd = -1;
 }
 
-/* The file has to be the one whose contents were read. */
+/* Whether it is the file whose contents were read is looked at when a block was read from it. */
 static bool reader_open(struct reader *reader, const struct version *version, size_t part, char **why)
 {
     struct identity now;
@@ -272,18 +272,12 @@ static bool reader_open(struct reader *reader, const struct version *version, si
         return true;
     reader_close(reader);
     reader->fd = open_plain(version->names[part], &now, why);
-    if (reader->fd < 0)
-        return false;
     reader->part = part;
-    if (is_same(&now, &version->parts[part].identity))
-        return true;
-    *why = changed(version->names[part]);
-    reader_close(reader);
-    return false;
+    return reader->fd >= 0;
 }
 
-/* The body's numbers against the contents; of a file that is as long as these say, 8 is a body that is not there any
- * more. */
+/* The body's numbers against the contents, which have to be those of the file that was read from; of such a file 8 is a
+ * body that is not there any more. */
 static bool lay_down(const struct reader *reader, const struct part *part, size_t block, size_t got, const char *name,
     uint64_t *numbers, char **why)
 {

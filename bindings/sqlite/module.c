@@ -2,16 +2,17 @@
  *
  *     CREATE VIRTUAL TABLE path USING column_file('path.col');
  *
- * The table has the columns row and value, and the hidden column digits, which is the number as text. Several files that
- * are named one after another are one column, and their rows are counted on. It can only be read.
+ * The table has the columns row and value, and the hidden column digits, which is the number as text. Several files
+ * that are named one after another are one column, and their rows are counted on. It can only be read.
  *
  * What is proved and what is not. Every decision on what a file is like, which blocks a search opens, which rows lie
  * between two bounds and what stands at a place is that of a function of the library, whose outcome is proved for every
- * input (include/fascjoldi.h). Not proved, and tested, is what stands between: that the files are read, that a comparison
- * of SQL becomes bounds (bounds.c), that the rows of several files are counted on, and what SQLite is told (plan.c).
+ * input (include/fascjoldi.h). Not proved, and tested, is what stands between: that the files are read, that a
+ * comparison of SQL becomes bounds (bounds.c), that the rows of several files are counted on, and what SQLite is told
+ * (plan.c).
  *
- * A query keeps the contents of the files as they were when it began. Where a file is replaced or changed while the query
- * still reads from it, that is an error; the next query has the new file. */
+ * A query keeps the contents of the files as they were when it began. Where a file is replaced or changed before the
+ * query has read from it all that it needs, that is an error; the next query has the new file. */
 #include "fascjoldi.h"
 #include "plan.h"
 #include <string.h>
@@ -349,7 +350,6 @@ static int column_filter(
         cursor->asked.rows.high = rows - 1;
     cursor->row = cursor->asked.rows.low;
     cursor->part = version_part_of(version, cursor->row);
-    follow_row(cursor);
     if (!cursor->asked.by_value)
         return SQLITE_OK;
     cursor->next_block = (size_t)((cursor->row - version->before[cursor->part]) / BLOCK);
@@ -385,8 +385,8 @@ static void give_value(sqlite3_context *context, const struct cursor *cursor, ui
         sqlite3_result_int64(context, (sqlite3_int64)number);
         return;
     }
-    char *why = sqlite3_mprintf("row %llu of %s is %llu, which is above 9223372036854775807 and so no integer of SQLite; "
-                                "the hidden column digits has it as text",
+    char *why = sqlite3_mprintf("row %llu of %s is %llu, which is above 9223372036854775807 and so no integer of "
+                                "SQLite; the hidden column digits has it as text",
         (sqlite3_uint64)cursor->row, ((struct table *)cursor->base.pVtab)->name, (sqlite3_uint64)number);
     if (why == NULL)
         sqlite3_result_error_nomem(context);

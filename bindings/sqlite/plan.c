@@ -1,8 +1,8 @@
 /* The planner's questions.
  *
  * A row is found at once: one block is opened. A range of rows opens the blocks that it lies in, and a range of numbers
- * those whose smallest and largest number, as the contents say, leave room for one of them; in edition 1, whose contents
- * do not say that, every block. Where the bounds are known already, the blocks are counted. */
+ * those whose smallest and largest number, as the contents say, leave room for one of them; in edition 1, whose
+ * contents do not say that, every block. Where the bounds are known already, the blocks are counted. */
 #include "plan.h"
 #include "fascjoldi.h"
 #include <string.h>
