@@ -448,7 +448,10 @@ __attribute__((visibility("default"))) int sqlite3_fascjoldisqlite_init(
 
 int sqlite3_fascjoldisqlite_init(sqlite3 *db, char **why, const sqlite3_api_routines *api)
 {
-    (void)why;
     SQLITE_EXTENSION_INIT2(api);
+    if (sqlite3_libversion_number() < 3024000) {
+        *why = sqlite3_mprintf("column_file needs SQLite 3.24 or later, and this is %s", sqlite3_libversion());
+        return SQLITE_ERROR;
+    }
     return sqlite3_create_module_v2(db, "column_file", &module, NULL, NULL);
 }

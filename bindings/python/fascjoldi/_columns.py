@@ -4,7 +4,7 @@ from __future__ import annotations
 import ctypes
 import os
 from array import array
-from typing import Any, Iterable, Iterator, Mapping, NamedTuple, Union, overload
+from typing import Any, Iterable, Iterator, NamedTuple, Union, overload
 
 from ._library import Lent, free, held, size, within
 from ._refused import Changed, Refused, of_file, of_row

@@ -13,7 +13,7 @@ sys.path.insert(0, str(ROOT / "tools"))
 from cases import mixed  # noqa: E402
 from cases.dice import Dice  # noqa: E402
 from columns_checks import common as checks  # noqa: E402
-from models import build, columns, files, layout, renumber, rewrite, writer  # noqa: E402,F401
+from models import files  # noqa: E402
 
 PROGRAM = os.environ.get("COLUMNS_PROGRAM", str(ROOT / "target" / "columns" / "columns"))
 TOP = 2**64 - 1

@@ -7,7 +7,9 @@ from fascjoldi import _library
 from fascjoldi._blocks import _CODES, SIZES
 from fascjoldi._library import Lent
 
-from .common import Dice, layout
+from .common import Dice
+
+from models import layout  # common.py says where it is
 
 WIDTHS = {8: (0, 1, 3, 7, 8), 16: (0, 1, 9, 15, 16), 32: (0, 1, 17, 31, 32), 64: (0, 1, 10, 33, 63, 64)}
 

@@ -10,7 +10,9 @@ import fascjoldi
 from fascjoldi import Column, NoRow, Refused, changes, encode
 from fascjoldi import _columns
 
-from .common import TOP, Dice, InFolder, bad_files, build, columns, files, good_files, rewrite, tool, writer
+from .common import TOP, Dice, InFolder, bad_files, good_files, tool
+
+from models import build, files, rewrite, writer  # common.py says where they are
 
 
 
