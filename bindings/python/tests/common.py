@@ -57,6 +57,11 @@ class InFolder(unittest.TestCase):
         self.addCleanup(folder.cleanup)
         self.folder = pathlib.Path(folder.name)
 
+    def same(self, found, expected):
+        """What assertEqual does, without going through the differences of long lists."""
+        if found != expected:
+            self.fail(f"{str(found)[:200]} and not {str(expected)[:200]}")
+
     def put(self, name, data):
         path = self.folder / name
         path.write_bytes(data)

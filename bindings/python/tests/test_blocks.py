@@ -1,4 +1,5 @@
 """The calls on blocks, at four sizes, against the model of the layout; and the buffers that are lent to them."""
+import ctypes
 import unittest
 from array import array
 
@@ -118,6 +119,8 @@ class Buffers(unittest.TestCase):
         ):
             with Lent(thing, "it") as lent:
                 self.assertEqual((lent.at, lent.length), (at, len(thing)))
+        with Lent(array("Q"), "it") as none:
+            self.assertNotEqual((none.at, none.length), (0, 0))
         with Lent(memoryview(raw).cast("Q"), "it") as first, Lent(memoryview(raw).cast("Q"), "it") as second:
             self.assertEqual(first.at, second.at)
 
@@ -128,7 +131,11 @@ class Buffers(unittest.TestCase):
         crooked = memoryview(room)[1 : 8 * 1024 + 1].cast("Q")
         crooked[:] = memoryview(values)
         twice = array("Q", [n // 2 for n in range(2048)])
-        for given in (memoryview(values), memoryview(bytes(values)).cast("Q"), crooked, memoryview(twice)[::2], twice[::2]):
+        foreign = (ctypes.c_uint64 * 1024)(*values)
+        for given in (
+            *(memoryview(values), memoryview(bytes(values)).cast("Q"), crooked, memoryview(twice)[::2], twice[::2], foreign),
+            *(array("L", values), memoryview(foreign), memoryview(values)[::-1][::-1]),
+        ):
             self.assertEqual(fascjoldi.pack(10, given), wanted)
         square = memoryview(bytes(values)).cast("B").cast("Q", (32, 32))
         self.assertEqual(fascjoldi.pack(10, square), wanted)

@@ -10,7 +10,7 @@ import fascjoldi
 from fascjoldi import Column, NoRow, Refused, changes, encode
 from fascjoldi import _columns
 
-from .common import TOP, Dice, InFolder, bad_files, good_files, tool
+from .common import TOP, Dice, InFolder, bad_files, checks, good_files, tool
 
 from models import build, files, rewrite, writer  # common.py says where they are
 
@@ -26,12 +26,12 @@ class Answers(InFolder):
             values = rewrite.all_values(data)
             with self.subTest(name):
                 self.assertEqual(tool("check", path)[1], f"ok, {len(values) // 1024} blocks, {len(column)} rows, edition {column.edition}\n")
-                self.assertEqual(list(column), values)
-                self.assertEqual("".join(f"{number}\n" for number in column), tool("rows", path)[1])
-                self.assertEqual([list(block) for block in column.in_blocks()], writer.blocks_of(values))
-                self.assertEqual(bytes(column), data)
+                self.same(list(column), values)
+                self.same("".join(f"{number}\n" for number in column), tool("rows", path)[1])
+                self.same([list(block) for block in column.in_blocks()], writer.blocks_of(values))
+                self.same(bytes(column), data)
                 for block in range(len(values) // 1024):
-                    self.assertEqual(list(column.block(block)), values[1024 * block : 1024 * (block + 1)])
+                    self.same(list(column.block(block)), values[1024 * block : 1024 * (block + 1)])
 
     def test_single_rows_and_slices(self):
         dice = Dice("python", "slices")
@@ -44,7 +44,7 @@ class Answers(InFolder):
                 for _ in range(60):
                     ends = [dice.pick((None, dice.below(2 * len(values) + 9) - len(values) - 4)) for _ in range(2)]
                     part = slice(*ends, dice.pick((None, 1, 2, -1, 7, -1023, 1024, 5000)))
-                    self.assertEqual(list(column[part]), values[part], part)
+                    self.same(list(column[part]), values[part])
                 for row in (len(values), len(values) + 5, -len(values) - 1, 2**70):
                     with self.assertRaises(NoRow) as told:
                         column[row]
@@ -68,10 +68,10 @@ class Answers(InFolder):
                     near = [dice.pick(values or [5]) + dice.below(9) - 4 for _ in range(2)]
                     low, high = (min(max(number, 0), TOP) for number in dice.pick((near, near[:1] * 2, (0, TOP), (0, 0))))
                     rows = list(column.find(low, high))
-                    self.assertEqual(rows, [row for row, value in enumerate(values) if low <= value <= high])
+                    self.same(rows, [row for row, value in enumerate(values) if low <= value <= high])
                     if low <= high:
                         said = tool("find", "-q", low, high, path)[1]
-                        self.assertEqual("".join(f"{row} {values[row]}\n" for row in rows), said)
+                        self.same("".join(f"{row} {values[row]}\n" for row in rows), said)
 
     def test_blocks(self):
         for name, data in good_files().items():
@@ -91,10 +91,10 @@ class Answers(InFolder):
                 why = column.canonical_answer()
                 if why is not None and why.number != 9:
                     self.assertEqual(f"differs {str(why).split('refused ')[1]}\n", said)
-                self.assertEqual(column.rewritten(), rewrite.rewritten(data))
+                self.same(column.rewritten(), rewrite.rewritten(data))
                 self.assertEqual(column.rewrite(new), len(rewrite.rewritten(data)))
                 self.assertEqual(tool("rewrite", path, self.folder / "theirs.col")[0], 0)
-                self.assertEqual(new.read_bytes(), (self.folder / "theirs.col").read_bytes())
+                self.same(new.read_bytes(), (self.folder / "theirs.col").read_bytes())
             new.unlink()
             (self.folder / "theirs.col").unlink()
 
@@ -105,7 +105,7 @@ class Answers(InFolder):
             left, right = (self.put(f"{side}.col", good_files()[dice.pick(some)]) for side in ("left", "right"))
             found = changes(left, Column.open(right))
             said = [line for line in tool("changes", left, right)[1].splitlines() if line[0].isdigit()]
-            self.assertEqual([f"{one.row} {one.left} {one.right}" for one in found], said)
+            self.same([f"{one.row} {one.left} {one.right}" for one in found], said)
         values = list(range(2048))
         other = values[:700] + [9] + values[701:1500] + [TOP] + values[1501:]
         found = changes(Column(encode(values)), Column(encode(other)))
@@ -135,6 +135,18 @@ class BadFiles(InFolder):
         column = Column.open(path)
         os.unlink(path)
         self.assertEqual(column[2047], 2047)
+
+    def test_the_longest(self):
+        """The longest file that is readable, and the same with a byte more and with very many."""
+        data = checks.longest(Dice("python", "longest"))
+        self.assertEqual(len(data), _columns.LONGEST_FILE)
+        path = self.put("longest.col", data)
+        column = Column.open(path)
+        self.same("".join(f"{number}\n" for number in column), tool("rows", path)[1])
+        for more in (1, 3_000_000):
+            with self.assertRaises(Refused) as told:
+                Column.open(self.put("longer.col", data + bytes(more)))
+            self.assertEqual((told.exception.number, told.exception.place), (11, 0))
 
     def test_cut_and_overwritten(self):
         """What happens to the file changes nothing of a column, and brings no process down."""
@@ -172,10 +184,10 @@ class Writing(InFolder):
             values = rewrite.all_values(data)
             wanted = writer.file_of(values)
             for given in (values, tuple(values), iter(values), array("Q", values), memoryview(array("Q", values))):
-                self.assertEqual(encode(given), wanted, name)
+                self.same(encode(given), wanted)
         small = [dice.below(200) for _ in range(2048)]
         for given in (bytes(small), bytearray(small), array("B", small), array("I", small), array("H", small)):
-            self.assertEqual(encode(given), writer.file_of(small))
+            self.same(encode(given), writer.file_of(small))
         self.assertEqual(encode([]), build.column_file([], 2))
         self.assertEqual(encode(range(0)), encode(array("Q")))
 
