@@ -30,6 +30,9 @@ class Store(InFolder):
             Column.write(self.path, NEW)
         self.assertIn("replace=True", str(told.exception))
         self.assertEqual(self.path.read_bytes(), encode(OLD))
+        # It is refused before a number is taken.
+        taken = (self.fail("a number is taken") for _ in OLD)
+        self.assertRaises(FileExistsError, Column.write, self.path, taken)
         Column.write(self.path, NEW, replace=True)
         self.assertEqual(self.path.read_bytes(), encode(NEW))
         self.assertEqual(self.names(), ["a.col"])
