@@ -4,13 +4,14 @@ from __future__ import annotations
 import ctypes
 import os
 from array import array
-from typing import Any, Iterable, Iterator, NamedTuple, Union, overload
+from typing import Any, Iterable, Iterator, Mapping, NamedTuple, Union, overload
 
-from ._library import Lent, free, held, size, within
+from ._library import Lent, free, has, held, size, within
 from ._refused import Changed, Refused, of_file, of_row
 from ._store import Store
 
 Path = Union[str, "os.PathLike[str]"]
+Pairs = Union[Mapping[int, int], Iterable[tuple[int, int]]]
 BLOCK = 1024  # the numbers of a block
 LONGEST_FILE = 2_625_540  # that is readable: edition 1, 256 run blocks of 1,024 values
 KINDS = ("packed", "frame", "differences", "runs")
@@ -61,6 +62,16 @@ def _as_numbers(values: Any) -> Any:
     except TypeError:
         return array("Q", values)
     return values if view.itemsize == 8 and view.format.lstrip("@=<") in ("Q", "L", "N") else array("Q", view.tolist())
+
+
+def _lists_of(pairs: Pairs) -> "tuple[array[int], array[int], array[int]]":
+    """The old numbers, rising, the new ones, and the places of the pairs by rising new number. The call checks all that
+    these promise."""
+    given = pairs.items() if isinstance(pairs, Mapping) else pairs
+    by_old = sorted(tuple(pair) for pair in given)
+    new = array("Q", (pair[1] for pair in by_old))
+    order = sorted(range(len(new)), key=lambda i: (new[i], i))
+    return array("Q", (pair[0] for pair in by_old)), new, array("Q", order)
 
 
 # ---- reading a file
@@ -292,6 +303,44 @@ class Column:
             store.put(data)
         return len(data)
 
+    def renumbered(self, pairs: Pairs) -> tuple[bytes, int]:
+        """The bytes of the file in which each number that is the old one of a pair is its new one, and how many rows have
+        another number than before. Every row is taken once, so 1 to 2 with 2 to 3 takes a 1 to 2, and 1 to 2 with 2 to 1
+        exchanges them. Pairs come in any order, or as a mapping from old to new.
+
+        Refused where an old number stands twice (19), a new number stands twice (21), or a number that is in the file and
+        is not listed is a new one too (22, with the row): two different numbers never become one.
+
+        >>> column = Column(encode([1, 2, 3, 4] * 256))
+        >>> data, changed = column.renumbered({1: 2, 2: 1})
+        >>> list(Column(data)[:4]), changed
+        ([2, 1, 3, 4], 512)
+        >>> column.renumbered({1: 3})
+        Traceback (most recent call last):
+            ...
+        fascjoldi.Refused: refused 22 2: ...
+        """
+        return self._renumbered(*_lists_of(pairs))
+
+    def _renumbered(self, old: Any, new: Any, order: Any) -> tuple[bytes, int]:
+        """By the three lists, which the call checks."""
+        output = ctypes.create_string_buffer(4 + _WORST_BLOCK * len(self._bodies))
+        length, changed, place = ctypes.c_size_t(), ctypes.c_size_t(), ctypes.c_size_t()
+        with Lent(old, "the old numbers") as olds, Lent(new, "the new numbers") as news, Lent(order, "the order") as places:
+            lists = [word for one in (olds, news, places) for word in (one.at, one.length)]
+            lent = [ctypes.byref(one) for one in (length, changed, place)]
+            room = ctypes.addressof(output), len(output)
+            answer = held.file_renumber(self._base, len(self._data), *lists, *room, *lent)
+        self._ask(answer, place)
+        return output.raw[: length.value], changed.value
+
+    def renumber(self, path: Path, pairs: Pairs, *, replace: bool = False) -> Renumbered:
+        """Writes the renumbered rows to a file, with the care of `write`."""
+        with Store(path, replace) as store:
+            data, changed = self.renumbered(pairs)
+            store.put(data)
+        return Renumbered(len(data), changed)
+
     def is_canonical(self) -> bool:
         """Whether the file is byte for byte what our writer would give for its rows."""
         return self.canonical_answer() is None
@@ -352,3 +401,8 @@ def changes(left: "Column | Path", right: "Column | Path") -> list[Change]:
             raise of_file(number, place.value, None)
         found.extend(Change(block * BLOCK + at, old[at], new[at]) for at in places[: count.value])
     return found
+
+
+if not has("fascjoldi_file_renumber"):
+    # The library is older than this call.
+    del Column.renumbered, Column._renumbered, Column.renumber
