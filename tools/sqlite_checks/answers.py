@@ -1,10 +1,11 @@
 """Every answer as the program's and the models': of good files, of damaged ones, and of files that change."""
+import ctypes
 import os
 
 from cases.dice import Dice
 from models import build, files, rewrite, writer
 
-from .common import MOST, some_files
+from .common import MOST, not_tried, some_files
 from .driver import Fault
 
 
@@ -321,6 +322,37 @@ def cut_meanwhile(checks, run, db, path, first):
     run.put("moving.col", first)
 
 
+def little_memory(checks, run):
+    """With less memory than a query needs it is refused, whatever it was about to do, and all is given back."""
+    try:
+        limit = run.lib.sqlite3_hard_heap_limit64
+    except AttributeError:
+        not_tried("a limit of memory", "this SQLite has none")
+        return
+    values = [row % 50 for row in range(4096)]
+    path = run.put("memory.col", writer.file_of(values))
+    wanted, failed, done = [(82,)], 0, 0
+    for more in range(0, 120_000, 700):
+        db = run.open()
+        used = run.lib.sqlite3_memory_used()
+        limit(ctypes.c_int64(used + more + 1))
+        try:
+            db.table("t", path, path)
+            db.ask("SELECT digits, value FROM t WHERE row = 5")
+            found = db.ask("SELECT count(*) FROM t a JOIN t b USING (row) WHERE a.value = 7 AND b.row < 4096")
+            checks.same(f"with {more} bytes", found, wanted)
+            done += 1
+        except Fault as error:
+            failed += 1
+            checks.that(f"with {more} bytes", "memory" in str(error), str(error))
+        finally:
+            limit(ctypes.c_int64(0))
+            db.close()
+    checks.that("some are done and some are not", done > 10 and failed > 10, f"{done} and {failed}")
+    checks.same("nothing is kept", run.lib.sqlite3_memory_used(), 0)
+    checks.group("little memory")
+
+
 def checks_of(checks, run):
     good_ones(checks, run)
     several(checks, run)
@@ -329,3 +361,4 @@ def checks_of(checks, run):
     damaged(checks, run)
     wrong_words(checks, run)
     changing(checks, run)
+    little_memory(checks, run)
