@@ -10,7 +10,8 @@
  * that nothing which a call writes, buffer or lent number, overlaps anything else that the same call is lent; and that no other
  * thread touches what is lent while the call runs. Nor is this header proved: tools/header writes it from the text of the functions,
  * and the tests fail where the two differ. Nor are the compiler that made the archive, which is for Linux on x86-64, and how much
- * stack a call takes.
+ * stack a call takes. The package for Python and the extension for SQLite (bindings/python, bindings/sqlite) see to what the program
+ * has to see to, by code that is tested and not proved; what else stands between is said at their heads.
  *
  * What a call gives. The result is the number of its answer, from the list below; where a function says or gives something else,
  * its sentence has it. *place is the place that goes with the number, and 0 where the list names none. The lent numbers, as

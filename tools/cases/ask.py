@@ -1,7 +1,7 @@
 """A question for each call, made from what the call takes."""
-from models import build, drawers, rewrite, search, trickle, writer
-from .stream import BLOCK_OUT, CANONICAL, CHECK, REWRITE, ROW_LOOKUP, SEARCH, STARTED, TRICKLE, TRICKLE_FROM
-from .stream import UNPACK_BLOCKS, WRITE, Question
+from models import build, drawers, renumber, rewrite, search, trickle, writer
+from .stream import BLOCK_OUT, CANONICAL, CHECK, RENUMBER, REWRITE, ROW_LOOKUP, SEARCH, STARTED, TRICKLE
+from .stream import TRICKLE_FROM, UNPACK_BLOCKS, WRITE, Question
 
 
 def ask_check(name, data):
@@ -60,6 +60,21 @@ def ask_rewritten(dice, name, data, more=0):
 
 def ask_canonical(name, data):
     return Question(CANONICAL, name, data)
+
+
+def ask_renumber(dice, name, data, lists, room):
+    """A renumbering into an output of that many bytes, which are thrown."""
+    old, new, order = lists
+    said = f"{name}, {len(old)} old, {len(new)} new, {len(order)} places, {len(data)} bytes into {room}"
+    numbers = build.words([*old, *new, *order])
+    return Question(RENUMBER, said, data, numbers, dice.bytes(room), index=len(new), reference=len(old))
+
+
+def ask_renumbered(dice, name, data, lists, more=0):
+    """A renumbering into an output that is as long as the new file, or longer by that much, or shorter where it is below
+    0. Where it is refused, the output is as long as the file."""
+    _, given = renumber.renumber(data, lists, 2**23)
+    return ask_renumber(dice, name, data, lists, max(len(data if given is None else given.file) + more, 0))
 
 
 def ask_drawer(dice, op, name, t, width, blocks, given, room, reference=0):

@@ -2,11 +2,12 @@
 
 Of a write it shows the three candidates of each block, and the file that the model writes. Of a drawer it shows the
 blocks that the model gives, of a trickle what every chunk adds, of a search the blocks that it opens, of a rewrite the
-old file, the candidates and the new file, and of a canonical check the file and the candidates.
+old file, the candidates and the new file, of a canonical check the file and the candidates, and of a renumbering the old
+file, the first pairs and the new file.
 """
-from models import canonical, drawers, files, rewrite, search, trickle, writer
-from .stream import BY_HAND, CANONICAL, DRAWERS, FOR_PACK_BLOCKS, NO_COUNT, REWRITE, ROW_LOOKUP, SEARCH, TRICKLE
-from .stream import TRICKLES, TRICKLE_FROM, UNPACK_BLOCKS, WRITE, fed_in
+from models import canonical, drawers, files, renumber, rewrite, search, trickle, writer
+from .stream import BY_HAND, CANONICAL, DRAWERS, FOR_PACK_BLOCKS, NO_COUNT, RENUMBER, REWRITE, ROW_LOOKUP, SEARCH
+from .stream import TRICKLE, TRICKLES, TRICKLE_FROM, UNPACK_BLOCKS, WRITE, fed_in, lists_in
 
 
 def plural(n, word):
@@ -196,6 +197,22 @@ def rewrite_lines(question):
     yield answer_line(answer)
 
 
+def renumber_lines(question):
+    """What the model does with a renumbering: the old file, the first pairs, and where it is done the new file."""
+    yield from contents_lines(question.a)
+    lists = lists_in(question)
+    for i, pair in enumerate(zip(*lists)):
+        if i < 20:
+            yield "pair {}: {} to {}; place {} of the order is {}".format(i, *pair[:2], i, pair[2])
+        elif i == 20:
+            yield "..."
+    answer, given = renumber.renumber(question.a, lists, len(question.c))
+    if given is not None:
+        yield from contents_lines(given.file)
+        yield f"K {given.changed}"
+    yield answer_line(answer)
+
+
 def canonical_lines(question):
     """What the model does with a canonical check: the file, and where it is readable what the writer has to choose
     from."""
@@ -251,6 +268,9 @@ def given_words(question):
         return trickle_words(question)
     if question.op == CANONICAL:
         return plural(len(question.a), "byte")
+    if question.op == RENUMBER:
+        counts = "{} old, {} new and {} places".format(*map(len, lists_in(question)))
+        return f"{counts}, {plural(len(question.a), 'byte')}, output of {plural(len(question.c), 'byte')}"
     if question.op == REWRITE:
         return f"{plural(len(question.a), 'byte')}, output of {plural(len(question.c), 'byte')}"
     if question.op == SEARCH:
@@ -285,6 +305,8 @@ def case_lines(i, question, expected, answered):
         yield from rewrite_lines(question)
     elif question.op == CANONICAL:
         yield from canonical_lines(question)
+    elif question.op == RENUMBER:
+        yield from renumber_lines(question)
     elif question.op == WRITE:
         yield from write_lines(files.words_of(question.a), len(question.c))
     else:

@@ -1,5 +1,5 @@
 """Cases with one thing wrong in what is expected, which every replay has to find wrong."""
-from .stream import DRAWERS, NO_COUNT, REWRITE, ROW_LOOKUP, SEARCH, TRICKLES, WRITE, answered
+from .stream import DRAWERS, NO_COUNT, RENUMBER, REWRITE, ROW_LOOKUP, SEARCH, TRICKLES, WRITE, answered
 
 
 def bytes_to_spoil(question, outcome):
@@ -9,6 +9,9 @@ def bytes_to_spoil(question, outcome):
     at = {0, len(outcome.c) - 1}
     if question.op in (WRITE, REWRITE) and not outcome.number:
         at |= {2, 4, 5, 6, 8, 12, 20, 28, 36, outcome.value - 1, outcome.value}
+    if question.op == RENUMBER and not outcome.number:
+        size = outcome.value >> 32
+        at |= {2, 4, 5, 6, 8, 12, 20, 28, 36, size - 1, size}
     if question.op == SEARCH and not outcome.number:
         at |= {8 * outcome.value - 1, 8 * outcome.value}
     if question.op in DRAWERS and not outcome.number and question.index:
@@ -31,8 +34,10 @@ def spoiled(questions):
         if question.op == ROW_LOOKUP:
             yield question, outcome._replace(value=(outcome.value + 2**63) % 2**64)
             yield from ((question, outcome._replace(reference=count)) for count in wrong_counts(outcome.reference))
-        if question.op in (WRITE, SEARCH, REWRITE, *DRAWERS, *TRICKLES):
+        if question.op in (WRITE, SEARCH, REWRITE, RENUMBER, *DRAWERS, *TRICKLES):
             yield question, outcome._replace(value=outcome.value + 1)
+        if question.op == RENUMBER:
+            yield question, outcome._replace(value=outcome.value + 2**32)
         for at in bytes_to_spoil(question, outcome):
             c = bytearray(outcome.c)
             c[at] ^= 128

@@ -6,18 +6,20 @@ have elements of T bits; the others have no size, and T is 64 there.
 
 docs/CASES.md does not say what a search with other than two bounds is, and neither a trickle whose chunk lengths do not
 add up to the bytes that are fed, or whose state made by hand lacks a part of its room, or whose reference is neither 0
-nor 1. No such case is written here, and one that is read makes a bad stream.
+nor 1, and neither a renumbering with more old and new numbers than b has elements. No such case is written here, and one
+that is read makes a bad stream.
 """
 import struct
 from typing import NamedTuple
 
-from models import canonical, drawers, files, rewrite, search, trickle, writer
+from models import canonical, drawers, files, renumber, rewrite, search, trickle, writer
 from models.layout import SIZES
 
 HEAD = struct.Struct("<BBHB3xQQQQ4I")
 CHECK, BLOCK_OUT, ROW_LOOKUP, WRITE, SEARCH, REWRITE, CANONICAL = 16, 17, 18, 19, 20, 21, 22
 UNPACK_BLOCKS, FOR_PACK_BLOCKS = DRAWERS = 24, 25
 TRICKLE, TRICKLE_FROM = TRICKLES = 26, 30
+RENUMBER = 31
 ELEMENTS = {
     CHECK: (1, 1, 8),
     BLOCK_OUT: (1, 1, 8),
@@ -28,6 +30,7 @@ ELEMENTS = {
     CANONICAL: (1, 1, 8),
     TRICKLE: (1, 8, 8),
     TRICKLE_FROM: (1, 8, 8),
+    RENUMBER: (1, 8, 1),
 }
 # The calls on blocks, which the model does not know, and the bytes of an element of b where they are other than T / 8.
 BLOCKS = (*range(9), *range(10, 15), 23, 27, 28, 29)
@@ -55,7 +58,8 @@ class Question(NamedTuple):
 
 
 class Outcome(NamedTuple):
-    """What the call gives and leaves. The reference is a row lookup's count of words, and 0 in the other calls."""
+    """What the call gives and leaves. The value of a renumbering is the new file's length, times 2^32, and K. The
+    reference is a row lookup's count of words, and 0 in the other calls."""
 
     number: int
     place: int
@@ -130,6 +134,20 @@ def to_trickle_from(q):
     return of_trickle(q, *trickle.from_a_state(*state, q.a, files.words_of(q.b), len(q.c) // 8))
 
 
+def lists_in(q):
+    """The three lists of a renumbering: so many old numbers, so many new ones, and the rest is the order."""
+    numbers, middle = files.words_of(q.b), q.reference + q.index
+    return renumber.Lists(numbers[: q.reference], numbers[q.reference : middle], numbers[middle:])
+
+
+def to_renumber(q):
+    answer, given = renumber.renumber(q.a, lists_in(q), len(q.c))
+    if answer.number:
+        return refused(answer, q)
+    size = len(given.file)
+    return Outcome(0, 0, given.file + q.c[size:], (size << 32) + given.changed)
+
+
 CALLS = {
     CHECK: to_check,
     BLOCK_OUT: to_block_out,
@@ -142,6 +160,7 @@ CALLS = {
     FOR_PACK_BLOCKS: to_for_pack_blocks,
     TRICKLE: to_trickle,
     TRICKLE_FROM: to_trickle_from,
+    RENUMBER: to_renumber,
 }
 
 
@@ -175,7 +194,7 @@ def behind_blocks(data):
 
 def takes_reference(op):
     """Does the call take its reference? In every other one the reference is expected."""
-    return op in (FOR_PACK_BLOCKS, TRICKLE_FROM)
+    return op in (FOR_PACK_BLOCKS, TRICKLE_FROM, RENUMBER)
 
 
 def search_fault(q):
@@ -199,7 +218,15 @@ def trickle_fault(q):
     return None
 
 
-FAULTS = {SEARCH: search_fault, TRICKLE: trickle_fault, TRICKLE_FROM: trickle_fault}
+def renumber_fault(q):
+    """What of a renumbering there cannot be, in words; None where all of it can."""
+    there = len(q.b) // 8
+    if q.reference + q.index > there:
+        return f"{q.reference} numbers are old and {q.index} new, and there are {there} together with the order"
+    return None
+
+
+FAULTS = {SEARCH: search_fault, TRICKLE: trickle_fault, TRICKLE_FROM: trickle_fault, RENUMBER: renumber_fault}
 
 
 def answered(question):

@@ -50,7 +50,7 @@ def thrown():
     """Random cases: readings and writes as the stream of mixed cases has them, and then some of every other sort."""
     readings = mixed.mixed(1, 600, (*OF_READER, WRITE))
     others = [mixed.drawers.drawers_of(1, 200), mixed.trickles.trickles(1, 100), mixed.searches.searches(1, 200)]
-    others += [mixed.rewrites.rewrites(1, 150), mixed.canonicals.canonicals(1, 200)]
+    others += [mixed.rewrites.rewrites(1, 150), mixed.canonicals.canonicals(1, 200), mixed.renumbers.renumbers(2, 200)]
     return with_outcomes([*readings, *(question for sort in others for question in sort)])
 
 

@@ -1,12 +1,12 @@
 """Holds the streams to what they are to reach: every call, every number that it can give, every kind, every count."""
 from cases import mixed, sweeps
-from cases.stream import BLOCK_OUT, CALLS, CANONICAL, CHECK, FOR_PACK_BLOCKS, NO_COUNT, REWRITE, ROW_LOOKUP, SEARCH
-from cases.stream import TRICKLE, TRICKLE_FROM, TRICKLES, UNPACK_BLOCKS, WRITE
+from cases.stream import BLOCK_OUT, CALLS, CANONICAL, CHECK, FOR_PACK_BLOCKS, NO_COUNT, RENUMBER, REWRITE, ROW_LOOKUP
+from cases.stream import SEARCH, TRICKLE, TRICKLE_FROM, TRICKLES, UNPACK_BLOCKS, WRITE
 from models import files
 from models.files import DIFFERENCES, FRAME, PACKED, RUNS
 from .common import OF_READER, Checked, sample, swept, thrown, unless
 
-GIVEN = {  # The numbers that each call can give, from Items 1, 3, 7, 9, 10, 11 and 14.
+GIVEN = {  # The numbers that each call can give, from Items 1, 3, 7, 9, 10, 11 and 14, and the renumbering's text.
     CHECK: {0, 8, 9, 10, 11, 13, 15},
     BLOCK_OUT: {0, 2, 8, 9, 10, 11, 12, 13, 15},
     ROW_LOOKUP: {0, 8, 9, 10, 11, 12, 13, 15},
@@ -18,6 +18,7 @@ GIVEN = {  # The numbers that each call can give, from Items 1, 3, 7, 9, 10, 11 
     FOR_PACK_BLOCKS: {0, 1, 2, 3},
     TRICKLE: {0, 1, 2, 16},
     TRICKLE_FROM: {0, 2, 16},
+    RENUMBER: {0, 8, 9, 10, 11, 13, 14, 15, 18, 19, 20, 21, 22},
 }
 # Numbers that the sample may leave to other calls and to the sweep, since there a block takes much room.
 LEFT_TO_OTHERS = {TRICKLE_FROM: {16}, BLOCK_OUT: {8, 9, 11}}

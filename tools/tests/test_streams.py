@@ -4,7 +4,7 @@ import struct
 
 from cases.ask import ask_row
 from cases.spoiled import spoiled
-from cases.stream import FOR_PACK_BLOCKS, REWRITE, ROW_LOOKUP, SEARCH, TRICKLE_FROM, WRITE, Outcome, Question
+from cases.stream import FOR_PACK_BLOCKS, RENUMBER, REWRITE, ROW_LOOKUP, SEARCH, TRICKLE_FROM, WRITE, Outcome, Question
 from cases.stream import answered, cases, record, replay
 from cases.sweeps.reads import SEVENS, SEVENS_2
 from models import build
@@ -56,6 +56,16 @@ def streams(questions):
     question = Question(REWRITE, "a rewrite", SEVENS, c=b"\xa5" * 38)
     same = record(question, answered(question)) == head + SEVENS + b"\xa5" * 38 + SEVENS_2 + b"\xa5" * 2
     yield from unless(same, "a record of a rewrite has another form")
+    # Sevens become eights; 3 becomes 2, and no row has it. The counts of old and new numbers are given, the rest is order.
+    head = struct.pack("<BBHB3xQQQQ4I", RENUMBER, 64, 0, 0, 0, 36 * 2**32 + 1024, 2, 2, 20, 6, 38, 0)
+    numbers, eights = struct.pack("<6Q", 3, 7, 2, 8, 0, 1), SEVENS_2[:12] + struct.pack("<3Q", 8, 8, 8)
+    question = Question(RENUMBER, "a renumbering", SEVENS, numbers, b"\xa5" * 38, 2, reference=2)
+    same = record(question, answered(question)) == head + SEVENS + numbers + b"\xa5" * 38 + eights + b"\xa5" * 2
+    yield from unless(same, "a record of a renumbering has another form")
+    for other in ({"reference": 5}, {"index": 5}, {"reference": 2**64 - 1}, {"index": 2**64 - 1}):
+        wrong = record(question._replace(**other), Outcome(0, 0, question.c))
+        said = replay(io.BytesIO(wrong))
+        yield from unless(said == ["bad stream at 0"], f"the replay of a renumbering that cannot be says {said}")
     # A state made by hand of width 2 with 250 bytes held takes 6 of 9 bytes, and the output is too short.
     head = struct.pack("<BBHB3xQQQQ4I", TRICKLE_FROM, 64, 2, 2, 0, 6, 0, 250, 8201, 3, 1, 0)
     taken, lengths = bytes(8192) + b"abcdefghi", struct.pack("<3Q", 4, 0, 5)
@@ -69,9 +79,9 @@ def streams(questions):
 
 
 def size_of_sample(asked):
-    """The sample is below a megabyte."""
+    """The sample is below 2^20 bytes."""
     size = sum(len(record(question, outcome)) for question, outcome in asked)
-    yield from unless(size < 1_000_000, f"the sample has {size} bytes, and is to be below a megabyte")
+    yield from unless(size < 2**20, f"the sample has {size} bytes, and is to be below 2^20")
 
 
 class Streams(Checked):
