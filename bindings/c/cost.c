@@ -86,7 +86,7 @@ AT_SIZE(u32, uint32_t, 32)
 AT_SIZE(u16, uint16_t, 16)
 AT_SIZE(u8, uint8_t, 8)
 
-/* A column file, the values that it holds, and room for what is made of it. */
+/* A column file, the values that it holds, and room for what is made of it; and where its last body begins, and its first row. */
 static uint64_t values[MOST * BLOCK], rows[BLOCK];
 static uint8_t file[MOST * 2400 + 8196], made[sizeof file];
 static size_t file_length, front_length, last_start, last_row;
@@ -194,11 +194,18 @@ static size_t call_file(const struct request *r, size_t turn)
     case 22: return fascjoldi_file_check_canonical(file, file_length, &place);
     case PASS: return pass();
     case RECALL: return by_body(blocks - 1, file_length - body, body) + (out_u64[BLOCK - 1] != values[BLOCK - 1]);
-    case ROW:
-        answer = fascjoldi_file_row_from(file, file_length, blocks - 1, last_start, last_row + turn % BLOCK, &value, &count, &place);
-        return answer + (value != values[turn % BLOCK]);
     default: return 1;
     }
+}
+
+/* A row of the last block, another at each turn, by its body. */
+static size_t call_row(const struct request *r, size_t turn)
+{
+    const size_t at = turn % BLOCK;
+    uint64_t value, count;
+    size_t place;
+    const size_t answer = fascjoldi_file_row_from(file, file_length, r->blocks - 1u, last_start, last_row + at, &value, &count, &place);
+    return answer + (value != values[at]);
 }
 
 /* The calls on a body that comes in chunks: a feed of zeros, or an ask. */
@@ -227,6 +234,9 @@ typedef size_t turn_of(const struct request *, size_t);
 /* What makes the calls of a request. */
 static turn_of *choose(const struct request *r)
 {
+    if (r->op == ROW) {
+        return call_row;
+    }
     if (r->edition != 0) {
         return call_file;
     }

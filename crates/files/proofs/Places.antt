@@ -3,21 +3,23 @@
 use mathlib.Core.Bool.{Bool, true, false}
 use mathlib.Core.List.{List, [], _∷_}
 use mathlib.Core.Path.{_≡_, refl, sym, ap, ap₂, _∙_}
-use Prim.Native.Nat.{ℕ, _+_, _-_, _/_, _%_, _≤_, _<_}
+use Prim.Native.Nat.{ℕ, suc, _+_, _-_, _/_, _%_, _≤_, _<_}
 use native.Mathlib.Nat.{add-sub-cancel-left}
+use native.Mathlib.Decide.{decLe}
 use native.Mathlib.Omega.{arith}
 use lib.Dec.{leb}
 use lib.ListN.{length, getD, take, drop}
 use borrow.Author.Tests.{le-leb, lt-ltb, le-ltb, eq-eqb, ne-eqb}
-use Rattle.lists.specs.Pick.{pick}
+use Rattle.lists.specs.Pick.{pick, both}
 use Rattle.places.specs.Sizes.{t64}
 use Rattle.access.specs.Counts.{countAt}
 use Rattle.contents.specs.declared.Entry.{Entry}
 use Rattle.contents.specs.declared.FileAnswer.{FileAnswer}
 use Rattle.contents.specs.declared.FileAnswer.the-variants.{Done, Cut, BadEntry, Beyond, Runs}
 use Rattle.contents.specs.Answers.{fileAnswer, numberOf, isDone}
-use Rattle.contents.specs.Contents.{count, entryOf, entryOr, hasRightEntry, bodyStart, contentsTests}
+use Rattle.contents.specs.Contents.{edition, editionOr, count, contentsSize, entryOf, entryOr, rangeOf, rangeOr, isLaidOut, isOfKind, isTakenIn, isOrdered, isRight, hasRightEntry, bodyStart, contentsTests}
 use Rattle.contents.proofs.Answers.{passed, stopped, none-left}
+use Rattle.contents.proofs.Entries.{entry-there, entry-missing, range-there, right-there, right-missing, edition-there}
 use Rattle.bodies.specs.Bodies.{blockOf, hasGoodRuns}
 use Rattle.bodywise.proofs.Fronts.{whole-front}
 use Rattle.bodywise.proofs.Told.{entry-read, body-ends}
@@ -44,6 +46,26 @@ runs-wrong false e refused = refl
 pub runs-right : (b : Bool) {a : FileAnswer} → a ≡ pick b Done (Runs 0) → numberOf a ≡ 0 → b ≡ true
 runs-right true e done = refl
 runs-right false e done = absurd (omega (arith, ap numberOf e))
+
+four-first : (edition n : ℕ) → 4 ≤ contentsSize edition n
+unfolding contentsSize
+four-first edition n = omega arith
+
+-- Whether an entry is right is told by what is read of it: where it is not there, an entry of no kind stands for it.
+pub right-read : (l : List ℕ) (i : ℕ)
+    → both (isLaidOut (entryOr l i)) (both (isTakenIn (editionOr l) (entryOr l i)) (isOrdered (rangeOr l i))) ≡ hasRightEntry l i
+unfolding isRight isLaidOut isOfKind
+right-read l i =
+    elim (decLe (contentsSize (edition l) (suc i)) (length l)) [
+      | yes there ↦
+          let head = edition-there l (omega (arith, four-first (edition l) (suc i))) in
+          ap₂ (λ e r. both (isLaidOut e) (both (isTakenIn (editionOr l) e) (isOrdered r))) (entry-there l i there) (range-there l i there)
+          ∙ ap (λ n. both (isLaidOut (entryOf l i)) (both (isTakenIn n (entryOf l i)) (isOrdered (rangeOf l i)))) head
+          ∙ sym (right-there l i there)
+      | no missing ↦
+          ap (λ e. both (isLaidOut e) (both (isTakenIn (editionOr l) e) (isOrdered (rangeOr l i)))) (entry-missing l i (omega arith))
+          ∙ sym (right-missing l i (omega arith))
+    ]
 
 module _ (l : List ℕ) (i at p : ℕ) where
   -- the value, where nothing is refused

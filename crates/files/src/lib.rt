@@ -14,7 +14,6 @@ use contents::FileAnswer;
 use contents::count;
 use contents::edition;
 use contents::entry_or;
-use contents::has_right_entry;
 use contents::range_or;
 use lookup::look_up;
 use lookup::run_value;
@@ -24,7 +23,7 @@ ghost use mathlib.Core.Path.{_≡_};
 ghost use mathlib.Core.Bool.{true};
 ghost use mathlib.Core.List.{[], _∷_};
 ghost use Prim.Native.Nat.{_+_, _<_};
-ghost use lib.Dec.{eqb, leb};
+ghost use lib.Dec.{eqb, ltb, leb};
 ghost use lib.ListN.{length, getD};
 ghost use Rattle.lists.specs.Pick.{pick, either};
 ghost use Rattle.lists.specs.Search.{firstBad};
@@ -32,7 +31,7 @@ ghost use Rattle.places.specs.Sizes.{t64};
 ghost use Rattle.access.specs.Counts.{countAt};
 ghost use Rattle.contents.specs.declared.FileAnswer.the-variants.{Done, Runs, Range};
 ghost use Rattle.contents.specs.Answers.{fileAnswer, numberOf};
-ghost use Rattle.contents.specs.Contents.{edition as editionIn, count as countIn, entryOf, rangeOr, bodyStart, contentsTests, ContentsTaken, isLaidOut};
+ghost use Rattle.contents.specs.Contents.{edition as editionIn, count as countIn, entryOf, entryOr, rangeOr, hasRightEntry, bodyStart, contentsTests, ContentsTaken, isLaidOut};
 ghost use Rattle.bodies.specs.Bodies.{blockOf, hasGoodRuns};
 ghost use Rattle.bodies.specs.Ranges.{isRange};
 ghost use Rattle.files.specs.declared.Row.the-variants.{Counted, Uncounted, Refused};
@@ -343,7 +342,7 @@ pub fn row_from(file: &[u8], i: usize, at: usize, p: usize) -> Row
     if !holds(file.len(), at, size) {
         return Row::Refused(FileAnswer::Cut);
     }
-    if !has_right_entry(file, i) {
+    if !is_right(file, i, e) {
         return Row::Refused(FileAnswer::BadEntry(i));
     }
     if p / 1024 != i {
@@ -351,6 +350,21 @@ pub fn row_from(file: &[u8], i: usize, at: usize, p: usize) -> Row
     }
     let end = at + size;
     row_in(e, &file[at..end], i, p % 1024)
+}
+
+// Whether entry i, which was read, is right in its edition. It is not read again, as contents::has_right_entry would.
+fn is_right(file: &[u8], i: usize, e: Entry) -> bool
+    requires { ⌜ e ≡ entryOr (now file) i ⌝ }
+    ensures { λ r. ⌜ r ≡ hasRightEntry (now (file .entry)) i ⌝ }
+{
+    e.is_laid_out() & (takes(edition(file), e.kind) & range_or(file, i).is_ordered())
+}
+
+// Whether an edition takes a kind.
+fn takes(edition: usize, kind: u8) -> bool
+    ensures { λ r. ⌜ r ≡ pick (eqb edition 2) (ltb kind 3) true ⌝ }
+{
+    (edition != 2) | (kind < 3)
 }
 
 // Whether `size` bytes from `at` on lie within n bytes.

@@ -37,7 +37,7 @@ whole : (c : tie.Else1) → leb (c .before .before .before .before .before .args
 whole c = sym (held-is (c .before)) ∙ not-false _ (c .if1 .left)
 
 right : (c : tie.Else2) → hasRightEntry (now (c .before .before .before .before .before .before .before .args .file)) (c .before .before .before .before .before .before .before .args .i) ≡ true
-right c = sym (c .before .has-right-entry .ensures) ∙ not-false _ (c .if2 .left)
+right c = sym (c .before .is-right .ensures) ∙ not-false _ (c .if2 .left)
 
 -- the body ends within the bytes
 ends : (c : tie.Else3) → c .before .before .before .before .before .before .before .before .args .at + c .before .before .before .before .before .before .entry-or .result .length ≤ length (now (c .before .before .before .before .before .before .before .before .args .file))
@@ -60,14 +60,14 @@ returns c =
     let start = held .before .before .before .before in
     sym (from-cut (now (start .args .file)) (start .args .i) (start .args .at) (start .args .p) (sym (held-is held) ∙ not-true _ (c .if1 .taken)))
 
-has-right-entry-requires : tie.Need-has-right-entry-requires
-has-right-entry-requires c κs = search needs
+is-right-requires : tie.Need-is-right-requires
+is-right-requires c κs = c .before .before .before .entry-or .ensures
 
 returns-2 : tie.Need-returns-2
 returns-2 c =
     let right = c .before in
     let start = right .before .before .before .before .before .before in
-    sym (from-wrong (now (start .args .file)) (start .args .i) (start .args .at) (start .args .p) (whole (right .before)) (sym (right .has-right-entry .ensures) ∙ not-true _ (c .if2 .taken)))
+    sym (from-wrong (now (start .args .file)) (start .args .i) (start .args .at) (start .args .p) (whole (right .before)) (sym (right .is-right .ensures) ∙ not-true _ (c .if2 .taken)))
 
 returns-3 : tie.Need-returns-3
 returns-3 c =
@@ -120,7 +120,7 @@ row-from-spec =
     cast-size
     holds-requires
     returns
-    has-right-entry-requires
+    is-right-requires
     returns-2
     returns-3
     add-end
