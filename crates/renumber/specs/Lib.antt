@@ -1,0 +1,4 @@
+pub mod InnerBlocks
+pub mod InnerPairs
+pub mod Pairs
+pub mod Renumber
