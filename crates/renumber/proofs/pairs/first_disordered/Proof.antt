@@ -3,12 +3,12 @@
 use mathlib.Core.Bool.{true}
 use borrow.Author.Count.{below-more}
 use borrow.Author.Tests.{not-true, not-false}
+use Rattle.renumber.proofs.Tested.{ordered-there, disordered-found, disordered-none}
 use denote.Ref.{now}
 use mathlib.Core.Path.{_≡_, sym, _∙_}
-use Rattle.renumber.proofs.Tested.{ordered-there, disordered-found, disordered-none}
-use lib.ListN.{length, getD}
-use Prim.Native.Nat.{ℕ, _-_, _≤_, _<_}
 use Rattle.renumber.specs.Pairs.{isOrderedAt}
+use Prim.Native.Nat.{ℕ, _-_, _≤_, _<_}
+use lib.ListN.{length, getD}
 use native.Mathlib.Omega.{arith}
 use Rattle.renumber.proofs.pairs.first_disordered.Statement.{statement}
 use Rattle.renumber.proofs.pairs.first_disordered.Tie as tie

@@ -1,10 +1,10 @@
 -- `renumber::pairs::first_twice` meets its contract: equal numbers stand side by side along the order.
 -- Assumes nothing.
-use denote.Ref.{now}
-use Rattle.renumber.proofs.Twins.{Twins, twins-none, twins-other, twins-equal, twins-all}
-use mathlib.Core.Logic.{⊎-elim}
 use mathlib.Core.Path.{sym, subst, _∙_}
+use mathlib.Core.Logic.{⊎-elim}
+use denote.Ref.{now}
 use Prim.Native.Nat.{_+_, _-_}
+use Rattle.renumber.proofs.Twins.{Twins, twins-none, twins-other, twins-equal, twins-all}
 use lib.ListN.{length}
 use borrow.Author.Needs.{needs}
 use native.Mathlib.Omega.{arith}

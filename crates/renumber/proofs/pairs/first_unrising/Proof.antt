@@ -2,12 +2,12 @@
 -- Assumes nothing.
 use mathlib.Core.Bool.{true}
 use borrow.Author.Count.{below-more}
-use denote.Ref.{now}
-use Rattle.renumber.specs.Pairs.{risesAt}
-use mathlib.Core.Path.{_≡_}
 use Rattle.renumber.proofs.Tested.{rises-first, rises-later, unrising-found, unrising-none}
-use lib.ListN.{length, getD}
+use denote.Ref.{now}
+use mathlib.Core.Path.{_≡_}
+use Rattle.renumber.specs.Pairs.{risesAt}
 use Prim.Native.Nat.{ℕ, _-_, _≤_, _<_}
+use lib.ListN.{length, getD}
 use native.Mathlib.Omega.{arith}
 use Rattle.renumber.proofs.pairs.first_unrising.Statement.{statement}
 use Rattle.renumber.proofs.pairs.first_unrising.Tie as tie

@@ -1,7 +1,7 @@
 -- `renumber::pairs::is_behind` meets its contract: equal new numbers go by their places.
 -- Assumes nothing.
-use denote.Ref.{now}
 use Rattle.renumber.proofs.Tested.{behind-equal, behind-other}
+use denote.Ref.{now}
 use borrow.Author.Needs.{needs}
 use Rattle.renumber.proofs.pairs.is_behind.Statement.{statement}
 use Rattle.renumber.proofs.pairs.is_behind.Tie as tie

@@ -1,9 +1,9 @@
 -- `renumber::pairs::is_free` meets its contract: only a number that is new has to be listed.
 -- Assumes nothing.
+use lib.Dec.{ltb}
+use mathlib.Core.Path.{sym, ap, _∙_}
 use denote.Ref.{now}
 use Rattle.renumber.proofs.Becoming.{free-new, free-other}
-use mathlib.Core.Path.{sym, ap, _∙_}
-use lib.Dec.{ltb}
 use lib.ListN.{length}
 use borrow.Author.Needs.{needs}
 use Rattle.renumber.proofs.pairs.is_free.Statement.{statement}

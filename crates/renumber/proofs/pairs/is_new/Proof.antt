@@ -1,7 +1,7 @@
 -- `renumber::pairs::is_new` meets its contract: the order has every place, so what stands nowhere along it is not new.
 -- Assumes nothing.
-use denote.Ref.{now}
 use Rattle.renumber.proofs.Becoming.{new-found, new-none}
+use denote.Ref.{now}
 use borrow.Author.Needs.{needs}
 use native.Mathlib.Omega.{arith}
 use Rattle.renumber.proofs.pairs.is_new.Statement.{statement}

@@ -1,8 +1,8 @@
 -- `renumber::pairs::is_ordered` meets its contract: the pair is there, and behind the one before it.
 -- Assumes nothing.
 use mathlib.Core.Path.{_∙_}
-use denote.Ref.{now}
 use Rattle.renumber.proofs.Tested.{ordered-beyond, ordered-first, ordered-later}
+use denote.Ref.{now}
 use borrow.Author.Needs.{needs}
 use native.Mathlib.Omega.{arith}
 use Rattle.renumber.proofs.pairs.is_ordered.Statement.{statement}

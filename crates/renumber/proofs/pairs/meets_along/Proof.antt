@@ -1,11 +1,11 @@
 -- `renumber::pairs::meets_along` meets its contract: the lowest number from the one bound on is looked at.
 -- Assumes nothing.
-use denote.Ref.{now}
-use mathlib.Core.Path.{sym, ap, _∙_}
 use Rattle.renumber.proofs.Tested.{length-along, getD-along}
+use Rattle.renumber.specs.Pairs.{along}
+use mathlib.Core.Path.{sym, ap, _∙_}
+use denote.Ref.{now}
 use lib.Dec.{leb}
 use Rattle.renumber.proofs.Becoming.{meets-some, meets-none}
-use Rattle.renumber.specs.Pairs.{along}
 use borrow.Author.Needs.{needs}
 use native.Mathlib.Omega.{arith}
 use Rattle.renumber.proofs.pairs.meets_along.Statement.{statement}

@@ -1,7 +1,7 @@
 -- `renumber::pairs::place_in` meets its contract: the number stands where halving stops, or nowhere.
 -- Assumes nothing.
-use denote.Ref.{now}
 use Rattle.renumber.proofs.Places.{place-found, place-none}
+use denote.Ref.{now}
 use borrow.Author.Needs.{needs}
 use native.Mathlib.Omega.{arith}
 use Rattle.renumber.proofs.pairs.place_in.Statement.{statement}

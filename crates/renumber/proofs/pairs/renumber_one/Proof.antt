@@ -1,7 +1,7 @@
 -- `renumber::pairs::renumber_one` meets its contract: by the number's place among the old ones.
 -- Assumes nothing.
-use denote.Ref.{now}
 use Rattle.renumber.proofs.Becoming.{becomes-new, stays}
+use denote.Ref.{now}
 use borrow.Author.Needs.{needs}
 use native.Mathlib.Omega.{arith}
 use Rattle.renumber.proofs.pairs.renumber_one.Statement.{statement}
