@@ -1,6 +1,7 @@
 pub mod Becoming
 pub mod Blocks
 pub mod Calls
+pub mod Exactly
 pub mod Halving
 pub mod Lists
 pub mod Measuring

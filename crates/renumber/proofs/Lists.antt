@@ -48,7 +48,7 @@ unfolding unrisingAt
 rising-old old none = rises-all old (λ i h. first-before (length old) (risesAt old) i (omega arith))
 
 -- A pair comes behind another where its number is above or its place is.
-is-behind : (new : List ℕ) (p q : ℕ) → (getD new p 0 < getD new q 0) ⊎ ((getD new p 0 ≡ getD new q 0) × (p < q)) → isBehind new p q ≡ true
+pub is-behind : (new : List ℕ) (p q : ℕ) → (getD new p 0 < getD new q 0) ⊎ ((getD new p 0 ≡ getD new q 0) × (p < q)) → isBehind new p q ≡ true
 is-behind new p q (inl a) = ap (λ b. either b (both (eqb (getD new p 0) (getD new q 0)) (ltb p q))) (lt-ltb _ _ a)
 is-behind new p q (inr b) =
     ap (either (ltb (getD new p 0) (getD new q 0))) (ap₂ both (eq-eqb _ _ (b .0)) (lt-ltb _ _ (b .1))) ∙ go (ltb (getD new p 0) (getD new q 0))
