@@ -2,6 +2,7 @@ pub mod Becoming
 pub mod Blocks
 pub mod Calls
 pub mod Exactly
+pub mod FileRenumbered
 pub mod Halving
 pub mod Lists
 pub mod Measuring
@@ -11,3 +12,4 @@ pub mod Rows
 pub mod Stops
 pub mod Tested
 pub mod Twins
+pub mod Undone
