@@ -39,15 +39,15 @@ ghost use Rattle.renumber.specs.Renumber.{numberOf, placeOf, newRows, ne
 pub enum RenumberAnswer {
     // that it is done, a refusal of the file, or that the output is too short
     File(FileAnswer),
-    // 18: the three lists are not of one length
+    // the three lists are not of one length
     Lengths,
-    // 19: an old number is not above the one before it; the lowest such place
+    // an old number is not above the one before it; the lowest such place
     Unrising(usize),
-    // 20: a place of the order says no pair, or one that does not come behind the pair before it; the lowest such place
+    // a place of the order says no pair, or one that does not come behind the pair before it; the lowest such place
     Disordered(usize),
-    // 21: a new number stands at another place too; the lowest such place
+    // a new number stands at another place too; the lowest such place
     Twice(usize),
-    // 22: a number that is not listed stands among the new numbers; the lowest row that has one
+    // a number that is not listed stands among the new numbers; the lowest row that has one
     Taken(usize),
 }
 
