@@ -3,8 +3,8 @@
 -- Assumes nothing.
 use mathlib.Core.Bool.{Bool, true, false}
 use mathlib.Core.List.{List}
-use mathlib.Core.Path.{_≡_, refl, sym, ap, ap₂, subst, _∙_}
-use Prim.Native.Nat.{ℕ, _+_, _-_, _≤_, _<_}
+use mathlib.Core.Path.{_≡_, refl, sym, ap, _∙_}
+use Prim.Native.Nat.{ℕ, _≤_, _<_}
 use native.Mathlib.Decide.{decLt, ℕ-discrete}
 use native.Mathlib.Omega.{arith}
 use lib.Dec.{eqb, leb, ltb}
@@ -18,7 +18,7 @@ use Rattle.lists.proofs.Tests.{false-true}
 use Rattle.renumber.specs.InnerPairs.{Within, meetsIn}
 use Rattle.renumber.specs.Pairs.{placeIn, isIn, renumbered, isFree, along}
 use Rattle.renumber.proofs.Orders.{Different, nowhere}
-use Rattle.renumber.proofs.Places.{place-is, place-before, in-stands, stands-in, stands-out, stands-not}
+use Rattle.renumber.proofs.Places.{place-is, place-before, stands-in, stands-out, stands-not}
 use Rattle.renumber.proofs.Tested.{length-along, getD-along}
 
 module _ (old new : List ℕ) (x : ℕ) where

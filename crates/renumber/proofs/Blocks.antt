@@ -1,20 +1,18 @@
 -- One block: its numbers replaced one by one, the lowest place that is taken, and that nothing has to be looked up in a
 -- block whose range meets no number of the list.
 -- Assumes nothing.
-use mathlib.Core.Bool.{Bool, true, false}
-use mathlib.Core.List.{List, [], _∷_, _++_, map}
-use mathlib.Core.Path.{_≡_, refl, sym, ap, ap₂, subst, _∙_}
+use mathlib.Core.Bool.{true, false}
+use mathlib.Core.List.{List, [], _∷_, map}
+use mathlib.Core.Path.{_≡_, refl, sym, ap, _∙_}
 use Prim.Native.Nat.{ℕ, zero, suc, _+_, _≤_, _<_}
 use native.Mathlib.Nat.{le-of-suc-le-suc, zero-add}
 use native.Mathlib.Omega.{arith}
-use lib.Dec.{eqb, leb, ltb}
 use lib.ListN.{length, getD, set, length-map, length-append}
 use lib.Seq.{ext-getD}
 use borrow.Author.Tests.{eq-eqb, ne-eqb, ltb-false}
 use Rattle.lists.specs.Ends.{lowestOf, highestOf}
 use Rattle.lists.specs.Members.{Rising}
 use Rattle.lists.specs.Passing.{failingFrom, passing}
-use Rattle.lists.specs.Search.{firstBad}
 use Rattle.lists.specs.Tab.{tab}
 use Rattle.lists.proofs.Failing.{failing-passed, failing-failed, failing-none, failing-few}
 use Rattle.lists.proofs.Highs.{highest-bound}

@@ -1,7 +1,7 @@
 -- What the renumbering answers and leaves, by its tests.
 -- Assumes nothing.
-use mathlib.Core.List.{List, [], _∷_}
-use mathlib.Core.Path.{_≡_, refl, sym, ap, subst, _∙_}
+use mathlib.Core.List.{List}
+use mathlib.Core.Path.{_≡_, sym, ap, _∙_}
 use Prim.Native.Nat.{ℕ, _≤_, _<_}
 use native.Mathlib.Omega.{arith}
 use borrow.Author.Tests.{eq-eqb, ne-eqb, le-leb, lt-leb}
@@ -16,11 +16,10 @@ use Rattle.contents.specs.Answers as Answers
 use Rattle.contents.specs.Answers.{fileAnswer}
 use Rattle.files.specs.Files.{rowAt, rowCount, fileTests}
 use Rattle.renumber.specs.declared.RenumberAnswer.{RenumberAnswer}
-use Rattle.renumber.specs.declared.RenumberAnswer.the-variants.{File, Lengths, Unrising, Disordered, Twice, Taken}
+use Rattle.renumber.specs.declared.RenumberAnswer.the-variants.{File, Taken}
 use Rattle.renumber.specs.declared.Renumbered.the-variants.{Length, Refused}
 use Rattle.renumber.specs.Pairs.{isFree}
 use Rattle.renumber.specs.Renumber.{numberOf, isDone, newFile, changedRows, takenAt, listAnswer, renumberAnswer, givenBy, leftBy, renumberedOf, renumberLeaves}
-use Rattle.renumber.proofs.Lists.{number-done}
 
 pub taken-le : (old new l : List ℕ) → takenAt old new l ≤ rowCount l
 unfolding takenAt

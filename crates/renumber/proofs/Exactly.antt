@@ -3,19 +3,19 @@
 -- Assumes nothing.
 use mathlib.Core.Bool.{Bool, true, false}
 use mathlib.Core.List.{List}
-use mathlib.Core.Logic.{_⊎_, _↔_, inl, inr, ⊎-elim}
+use mathlib.Core.Logic.{_↔_, inl, inr, ⊎-elim}
 use mathlib.Core.Path.{_≡_, refl, sym, ap, ap₂, subst, _∙_}
-use Prim.Native.Nat.{ℕ, zero, suc, _+_, _-_, _≤_, _<_}
+use Prim.Native.Nat.{ℕ, _-_, _≤_, _<_}
 use native.Mathlib.Decide.{decLt, decLe, ℕ-discrete}
 use native.Mathlib.Omega.{arith}
 use lib.Dec.{eqb, ltb}
 use lib.ListN.{length, getD}
-use borrow.Author.Tests.{eq-eqb, ne-eqb, eqb-true, eqb-false, lt-ltb, le-ltb, ltb-true, ltb-false}
+use borrow.Author.Tests.{eq-eqb, ne-eqb, eqb-true, eqb-false, ltb-true}
 use Rattle.lists.specs.Members.{Stands}
-use Rattle.lists.specs.Pick.{pick, both, either, fails}
+use Rattle.lists.specs.Pick.{either, fails}
 use Rattle.lists.specs.Search.{firstBad}
 use Rattle.lists.proofs.Search.{first-le, first-at, first-before, first-only}
-use Rattle.lists.proofs.Tests.{both-true, either-true, false-true, not-then}
+use Rattle.lists.proofs.Tests.{either-true, false-true, not-then}
 use Rattle.contents.specs.declared.FileAnswer.the-variants.{Done, Room}
 use Rattle.contents.specs.Answers as Answers
 use Rattle.contents.specs.Answers.{fileAnswer}
@@ -25,12 +25,12 @@ use Rattle.files.specs.Reasons.{Reason}
 use Rattle.files.proofs.Exactly.{reason-gives, file-exactly}
 use Rattle.renumber.specs.declared.RenumberAnswer.{RenumberAnswer}
 use Rattle.renumber.specs.declared.RenumberAnswer.the-variants.{File, Lengths, Unrising, Disordered, Twice, Taken}
-use Rattle.renumber.specs.Pairs.{isIn, isFree, risesAt, unrisingAt, isBehind, isOrderedAt, disorderedAt, isApart, isAlone, twiceAt}
-use Rattle.renumber.specs.Reasons.{OneLength, RisesAt, Behind, OrderedAt, Alone, Free, ListsRight, RenumberReason, of-file, other-lengths, unrising, disordered, twice, taken, short-output, room-there}
+use Rattle.renumber.specs.Pairs.{isIn, isFree, risesAt, unrisingAt, isOrderedAt, disorderedAt, isApart, isAlone, twiceAt}
+use Rattle.renumber.specs.Reasons.{OneLength, RisesAt, OrderedAt, Alone, Free, ListsRight, RenumberReason, of-file, other-lengths, unrising, disordered, twice, taken, short-output, room-there}
 use Rattle.renumber.specs.Renumber.{newFile, takenAt, listAnswer, renumberAnswer}
 use Rattle.renumber.proofs.Calls.{file-stops, lists-stop, row-stops, room-stops, nothing-stops}
 use Rattle.renumber.proofs.Lists.{is-behind, lengths-new, lengths-order, old-unrising, order-disordered, new-twice, lists-done}
-use Rattle.renumber.proofs.Places.{in-stands, stands-in, out-stands, stands-out}
+use Rattle.renumber.proofs.Places.{in-stands, stands-in, stands-out}
 use Rattle.renumber.proofs.Tested.{rises-first, rises-later, rises-not, ordered-first, ordered-later, ordered-there}
 use Rattle.renumber.proofs.Twins.{behind-is, alone-not, alone-is}
 

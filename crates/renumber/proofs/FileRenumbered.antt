@@ -4,31 +4,29 @@
 -- output as it was, and empty lists give the rewrite.
 -- Assumes nothing.
 use mathlib.Core.Bool.{Bool, true, false}
-use mathlib.Core.List.{List, [], _∷_, map, map-id}
-use mathlib.Core.Logic.{_↔_, _≢_, inl, inr}
+use mathlib.Core.List.{List, [], map}
+use mathlib.Core.Logic.{_↔_, _≢_, inr}
 use mathlib.Core.Path.{_≡_, refl, sym, ap, ap₂, subst, _∙_}
-use Prim.Native.Nat.{ℕ, _+_, _*_, _/_, _%_, _^_, _≤_, _<_, min}
+use Prim.Native.Nat.{ℕ, _^_, _≤_, _<_}
 use native.Mathlib.Decide.{decLt, decLe, ℕ-discrete}
 use native.Mathlib.Omega.{arith}
-use borrow.Author.Tests.{eq-eqb, ne-eqb, lt-ltb, ltb-true, ltb-false}
-use lib.Dec.{eqb, ltb}
+use borrow.Author.Tests.{eq-eqb}
+use lib.Dec.{eqb}
 use lib.ListN.{length, getD, take, drop, length-map}
 use lib.Seq.{ext-getD}
 use Rattle.lists.specs.Members.{Stands, Rising}
 use Rattle.lists.specs.Numbers.{Elements}
 use Rattle.lists.specs.Passing.{failingFrom}
 use Rattle.lists.specs.Pick.{pick}
-use Rattle.lists.specs.Search.{firstBad}
-use Rattle.lists.specs.Tab.{over, tab}
+use Rattle.lists.specs.Tab.{over}
 use Rattle.lists.proofs.Digits.{elements-of}
 use Rattle.lists.proofs.Failing.{failing-ext, failing-none, map-failing}
 use Rattle.lists.proofs.Overs.{over-front, over-rest}
-use Rattle.lists.proofs.Search.{first-le}
 use Rattle.lists.proofs.Tabs.{getD-tab}
 use Rattle.places.specs.Sizes.{t64, lanes}
 use Rattle.contents.specs.declared.Entry.{Entry}
 use Rattle.contents.specs.declared.FileAnswer.{FileAnswer}
-use Rattle.contents.specs.declared.FileAnswer.the-variants.{Done, Room}
+use Rattle.contents.specs.declared.FileAnswer.the-variants.{Done}
 use Rattle.contents.specs.Answers as Answers
 use Rattle.contents.specs.Answers.{fileAnswer}
 use Rattle.contents.specs.Contents.{edition, count, entryOf}
@@ -43,26 +41,25 @@ use Rattle.writer.specs.Writer.{fileOf}
 use Rattle.writer.specs.Writer as Writer
 use Rattle.writer.proofs.FileWritten.{block-least}
 use Rattle.writer.proofs.ReadBack.{edition-is, count-is, entry-read, file-accepted, rows-read}
-use Rattle.compare.specs.declared.Change.{Change}
 use Rattle.compare.specs.Changes.{rowsInBoth, isSameRow, changeOf, changesOf}
 use Rattle.rewrite.specs.Rewrite as Rewrite
 use Rattle.rewrite.proofs.Calls as Rewrites
 use Rattle.rewrite.proofs.Rows as Old
 use Rattle.renumber.specs.declared.RenumberAnswer.{RenumberAnswer}
-use Rattle.renumber.specs.declared.RenumberAnswer.the-variants.{File, Lengths, Unrising, Disordered, Twice, Taken}
+use Rattle.renumber.specs.declared.RenumberAnswer.the-variants.{File}
 use Rattle.renumber.specs.declared.Renumbered.the-variants.{Length, Refused}
 use Rattle.renumber.specs.InnerBlocks.{newBlock}
-use Rattle.renumber.specs.InnerPairs.{Paired, isKept}
-use Rattle.renumber.specs.Pairs.{placeIn, isIn, renumbered, isFree, unrisingAt, disorderedAt, twiceAt}
+use Rattle.renumber.specs.InnerPairs.{Paired}
+use Rattle.renumber.specs.Pairs.{placeIn, renumbered, isFree}
 use Rattle.renumber.specs.Renumber.{numberOf, isDone, newRows, newFile, changedRows, takenAt, listAnswer, renumberAnswer, renumberedOf, renumberLeaves, answerOf, lengthOf, changedOf}
 use Rattle.renumber.proofs.Becoming.{becomes-new, stays}
 use Rattle.renumber.proofs.Calls.{refused, file-stops, lists-stop, row-stops, room-stops, nothing-stops, written, taken-le}
 use Rattle.renumber.proofs.Blocks.{getD-map}
 use Rattle.renumber.proofs.Exactly.{none-fails, free-tested}
 use Rattle.renumber.proofs.Lists.{number-done, lists-taken, lists-paired, lists-done}
-use Rattle.renumber.proofs.Places.{place-le, place-is, place-before, place-only}
+use Rattle.renumber.proofs.Places.{place-is, place-only}
 use Rattle.renumber.proofs.Stops.{unrising-le, disordered-le, twice-le}
-use Rattle.renumber.proofs.Rows.{length-rows, getD-rows, rows-long, rows-blocks, rows-whole, block-at}
+use Rattle.renumber.proofs.Rows.{length-rows, getD-rows, rows-long, block-at}
 
 -- Place p of the rows is row p.
 pub row-is : (l : List ℕ) (p : ℕ) → p < rowCount l → getD (rowsOf l) p 0 ≡ rowAt l p

@@ -5,15 +5,15 @@ use mathlib.Core.Bool.{Bool, true, false}
 use mathlib.Core.List.{List, [], _∷_}
 use mathlib.Core.Logic.{_⊎_, inl, inr, ⊎-elim}
 use mathlib.Core.Path.{_≡_, refl, sym, ap, ap₂, subst, _∙_}
-use Prim.Native.Nat.{ℕ, zero, suc, _+_, _-_, _≤_, _<_}
-use native.Mathlib.Decide.{decLt, ℕ-discrete}
+use Prim.Native.Nat.{ℕ, zero, suc, _-_, _≤_, _<_}
+use native.Mathlib.Decide.{ℕ-discrete}
 use native.Mathlib.Omega.{arith}
 use lib.Dec.{eqb, ltb}
 use lib.ListN.{length, getD}
-use borrow.Author.Tests.{eq-eqb, ne-eqb, eqb-true, eqb-false, lt-ltb, le-ltb, ltb-true, ltb-false}
+use borrow.Author.Tests.{eq-eqb, ne-eqb, eqb-true, lt-ltb, ltb-true}
 use Rattle.lists.specs.Members.{Rising}
-use Rattle.lists.specs.Pick.{pick, both, either, fails}
-use Rattle.lists.specs.Tests.{Test, firstRefusal}
+use Rattle.lists.specs.Pick.{pick, both, either}
+use Rattle.lists.specs.Tests.{Test}
 use Rattle.lists.proofs.Answers.{first-passed}
 use Rattle.lists.proofs.Search.{first-before}
 use Rattle.lists.proofs.Tests.{both-true, either-true, false-true}
@@ -21,9 +21,9 @@ use Rattle.contents.specs.declared.FileAnswer.the-variants.{Done}
 use Rattle.contents.proofs.Answers as Answers
 use Rattle.renumber.specs.declared.RenumberAnswer.{RenumberAnswer}
 use Rattle.renumber.specs.declared.RenumberAnswer.the-variants.{File, Lengths, Unrising, Disordered, Twice, Taken}
-use Rattle.renumber.specs.InnerPairs.{Within, Ordered, Paired}
+use Rattle.renumber.specs.InnerPairs.{Ordered, Paired}
 use Rattle.renumber.specs.Pairs.{risesAt, unrisingAt, isBehind, isOrderedAt, disorderedAt, isAlone, twiceAt, along}
-use Rattle.renumber.specs.Renumber.{numberOf, listTests, listAnswer}
+use Rattle.renumber.specs.Renumber.{numberOf, listAnswer}
 use Rattle.renumber.proofs.Tested.{length-along, getD-along, ordered-there}
 use Rattle.renumber.proofs.Twins.{behind-is, falls-not, equal-rise, alone-not}
 

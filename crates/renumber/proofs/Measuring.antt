@@ -2,8 +2,8 @@
 -- has up to there.
 -- Assumes nothing.
 use mathlib.Core.Bool.{true}
-use mathlib.Core.List.{List, []}
-use mathlib.Core.Path.{_≡_, refl, sym, ap, subst, _∙_}
+use mathlib.Core.List.{List}
+use mathlib.Core.Path.{_≡_, sym, ap, _∙_}
 use Prim.Native.Nat.{ℕ, _+_, _*_, _≤_, _<_}
 use native.Mathlib.Omega.{arith}
 use lib.ListN.{length, getD}
@@ -17,7 +17,7 @@ use Rattle.bodywise.specs.declared.Body.{Body}
 use Rattle.bodywise.specs.Cursor.{firstBody, nextBody}
 use Rattle.bodywise.proofs.Walking.{Walking, file-first, file-zero, file-number, file-next}
 use Rattle.candidates.proofs.Choice.{chosen-short}
-use Rattle.files.specs.Files.{blockIn, rowAt, rowCount, fileTests}
+use Rattle.files.specs.Files.{blockIn, rowAt, fileTests}
 use Rattle.writer.specs.Writer.{bodiesFor}
 use Rattle.writer.proofs.Laying.{bodies-none, bodies-short}
 use Rattle.rewrite.proofs.Rows.{right, few}

@@ -4,17 +4,17 @@
 use mathlib.Core.Bool.{Bool, true, false}
 use mathlib.Core.List.{List}
 use mathlib.Core.Logic.{_↔_}
-use mathlib.Core.Path.{_≡_, refl, sym, ap, ap₂, subst, _∙_}
-use Prim.Native.Nat.{ℕ, _+_, _-_, _≤_, _<_}
+use mathlib.Core.Path.{_≡_, refl, sym, ap, subst, _∙_}
+use Prim.Native.Nat.{ℕ, _≤_, _<_}
 use native.Mathlib.Decide.{decLt, ℕ-discrete}
 use native.Mathlib.Omega.{arith}
-use lib.Dec.{eqb, ltb}
+use lib.Dec.{eqb}
 use lib.ListN.{length, getD}
-use borrow.Author.Tests.{eq-eqb, ne-eqb, eqb-true, eqb-false, lt-ltb, le-ltb, ltb-true, ltb-false}
+use borrow.Author.Tests.{eq-eqb, ne-eqb, eqb-true, eqb-false, lt-ltb, le-ltb, ltb-true}
 use Rattle.lists.specs.Members.{Stands, Rising}
-use Rattle.lists.specs.Pick.{pick, fails}
-use Rattle.lists.specs.Search.{firstBad, firstBeyond}
-use Rattle.lists.proofs.Search.{first-le, first-before, first-at, first-only, first-beyond-le, first-beyond-before, first-beyond-at}
+use Rattle.lists.specs.Pick.{fails}
+use Rattle.lists.specs.Search.{firstBeyond}
+use Rattle.lists.proofs.Search.{first-le, first-before, first-at, first-only, first-beyond-before, first-beyond-at}
 use Rattle.lists.proofs.Tests.{false-true}
 use Rattle.renumber.specs.Pairs.{placeIn, isIn}
 

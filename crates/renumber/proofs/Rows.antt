@@ -1,20 +1,18 @@
 -- The rows of the new file, as the writer takes them: whole blocks, at most 256, each of which is a block of the old file
 -- renumbered. Where the next body of the new file begins; and what is known of the rows after a block of them.
 -- Assumes nothing.
-use mathlib.Core.Bool.{Bool, true, false}
+use mathlib.Core.Bool.{Bool, true}
 use mathlib.Core.List.{List, map}
-use mathlib.Core.Path.{_≡_, refl, sym, ap, ap₂, subst, _∙_}
+use mathlib.Core.Path.{_≡_, sym, ap, ap₂, _∙_}
 use Prim.Native.Nat.{ℕ, _+_, _-_, _*_, _/_, _%_, _≤_, _<_}
 use native.Mathlib.Decide.{decLt}
 use native.Mathlib.Nat.{add-zero, zero-add}
 use native.Mathlib.Numerals.{add-one}
 use native.Mathlib.Omega.{arith}
-use lib.Dec.{eqb}
 use lib.ListN.{length, getD, length-map, length-append}
 use Rattle.lists.specs.Numbers.{Elements}
-use Rattle.lists.specs.Passing.{failingFrom, passing}
+use Rattle.lists.specs.Passing.{failingFrom}
 use Rattle.lists.specs.Parts.{cut}
-use Rattle.lists.specs.Search.{firstBad}
 use Rattle.lists.specs.Tab.{tab}
 use Rattle.lists.proofs.Failing.{failing-append, failing-shift, failing-ext, failing-few}
 use Rattle.lists.proofs.Parts.{length-cut, getD-cut}

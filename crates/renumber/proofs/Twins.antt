@@ -1,24 +1,24 @@
 -- The lowest place whose number stands twice. Along an order equal numbers stand side by side, and of two neighbours that
 -- are equal the first has the lower place; so the lowest of these is the lowest place of all.
 -- Assumes nothing.
-use mathlib.Core.Bool.{Bool, true, false}
+use mathlib.Core.Bool.{true, false}
 use mathlib.Core.List.{List}
 use mathlib.Core.Logic.{_⊎_, inl, inr, ⊎-elim}
 use mathlib.Core.Path.{_≡_, refl, sym, ap, ap₂, subst, _∙_}
-use Prim.Native.Nat.{ℕ, zero, suc, _+_, _-_, _≤_, _<_, min}
+use Prim.Native.Nat.{ℕ, _+_, _-_, _≤_, _<_, min}
 use native.Mathlib.Decide.{decLt, ℕ-discrete}
 use native.Mathlib.Omega.{arith}
-use lib.Dec.{eqb, ltb}
+use lib.Dec.{eqb}
 use lib.ListN.{length, getD}
-use borrow.Author.Tests.{eq-eqb, ne-eqb, eqb-true, eqb-false, lt-ltb, le-ltb, ltb-true, ltb-false}
-use Rattle.lists.specs.Pick.{pick, both, either, fails}
+use borrow.Author.Tests.{eq-eqb, ne-eqb, eqb-true, ltb-true}
+use Rattle.lists.specs.Pick.{either, fails}
 use Rattle.lists.specs.Search.{firstBad}
-use Rattle.lists.proofs.Search.{first-le, first-at, first-before, first-only}
+use Rattle.lists.proofs.Search.{first-before, first-only}
 use Rattle.lists.proofs.Tests.{both-true, either-true, false-true}
 use Rattle.renumber.specs.InnerPairs.{Ordered}
 use Rattle.renumber.specs.Pairs.{isBehind, isApart, isAlone, twiceAt, placeIn}
 use Rattle.renumber.proofs.Orders.{Different, nowhere}
-use Rattle.renumber.proofs.Places.{place-le, place-is, place-before}
+use Rattle.renumber.proofs.Places.{place-is, place-before}
 
 -- What it is that a pair comes behind another.
 pub behind-is : (new : List ℕ) (p q : ℕ) → isBehind new p q ≡ true → (getD new p 0 < getD new q 0) ⊎ ((getD new p 0 ≡ getD new q 0) × (p < q))

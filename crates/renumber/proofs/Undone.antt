@@ -2,21 +2,20 @@
 -- order turned round, the new file is not refused where the output has room for any file of as many blocks, as many rows
 -- change, and what is written is byte for byte the rewrite of the old file.
 -- Assumes nothing.
-use mathlib.Core.Bool.{Bool, true, false}
+use mathlib.Core.Bool.{true}
 use mathlib.Core.List.{List}
 use mathlib.Core.Logic.{inl, inr, ⊎-elim}
 use mathlib.Core.Path.{_≡_, refl, sym, ap, ap₂, subst, _∙_}
 use Prim.Native.Nat.{ℕ, _+_, _-_, _*_, _≤_, _<_}
 use native.Mathlib.Decide.{decLt, ℕ-discrete}
 use native.Mathlib.Omega.{arith}
-use borrow.Author.Tests.{eq-eqb, ne-eqb, ltb-false}
+use borrow.Author.Tests.{eq-eqb, ne-eqb}
 use lib.Dec.{eqb}
 use lib.ListN.{length, getD}
 use lib.Seq.{ext-getD}
 use Rattle.lists.specs.Members.{Stands, Rising}
 use Rattle.lists.specs.Numbers.{Elements}
 use Rattle.lists.specs.Passing.{failingFrom}
-use Rattle.lists.specs.Search.{firstBad}
 use Rattle.lists.specs.Tab.{over}
 use Rattle.lists.proofs.Failing.{failing-ext}
 use Rattle.lists.proofs.Search.{first-before}
@@ -27,21 +26,21 @@ use Rattle.contents.specs.Answers.{fileAnswer}
 use Rattle.contents.specs.Contents.{count}
 use Rattle.files.specs.Files.{rowAt, rowCount, rowsOf, fileTests}
 use Rattle.files.proofs.Rows.{rows-count}
-use Rattle.writer.specs.Writer.{blockCount, fileOf}
+use Rattle.writer.specs.Writer.{fileOf}
 use Rattle.writer.proofs.Laying.{file-short}
 use Rattle.rewrite.specs.Rewrite as Rewrite
 use Rattle.rewrite.proofs.Rows as Old
 use Rattle.renumber.specs.declared.RenumberAnswer.the-variants.{File}
 use Rattle.renumber.specs.declared.Renumbered.the-variants.{Length}
 use Rattle.renumber.specs.InnerPairs.{Paired}
-use Rattle.renumber.specs.Pairs.{placeIn, isIn, renumbered, isFree, along, turned}
-use Rattle.renumber.specs.Reasons.{Free, ListsRight}
-use Rattle.renumber.specs.Renumber.{newRows, newFile, changedRows, takenAt, listAnswer, renumberAnswer, renumberedOf, renumberLeaves}
-use Rattle.renumber.proofs.Becoming.{becomes-new, stays, order-different, order-place, along-stands, stands-along}
+use Rattle.renumber.specs.Pairs.{placeIn, renumbered, isFree, along, turned}
+use Rattle.renumber.specs.Reasons.{ListsRight}
+use Rattle.renumber.specs.Renumber.{newRows, newFile, changedRows, takenAt, renumberAnswer, renumberedOf, renumberLeaves}
+use Rattle.renumber.proofs.Becoming.{becomes-new, stays, order-different, order-place, along-stands}
 use Rattle.renumber.proofs.Calls.{nothing-stops, written}
 use Rattle.renumber.proofs.Exactly.{none-fails, free-tested, tested-free, lists-right}
-use Rattle.renumber.proofs.FileRenumbered.{row-is, all-taken, all-paired, new-accepted, new-count, new-rows, new-row}
-use Rattle.renumber.proofs.Places.{place-le, place-is, place-before, place-only, stands-in, in-stands}
+use Rattle.renumber.proofs.FileRenumbered.{row-is, all-taken, all-paired, new-accepted, new-count, new-row}
+use Rattle.renumber.proofs.Places.{place-is, place-before, place-only}
 use Rattle.renumber.proofs.Rows.{length-rows, getD-rows}
 use Rattle.renumber.proofs.Tested.{length-along, getD-along}
 

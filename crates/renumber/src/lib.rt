@@ -33,7 +33,7 @@ ghost use Rattle.files.specs.Files.{blockIn, FileTaken};
 ghost use Rattle.writer.specs.Writer.{entriesFor, bodiesFor};
 ghost use Rattle.renumber.specs.InnerBlocks.{newBlock, takenIn, changedIn, BlockMeasured, FileMeasured};
 ghost use Rattle.renumber.specs.InnerPairs.{Paired};
-ghost use Rattle.renumber.specs.Renumber.{numberOf, placeOf, newRows, newFile, takenAt, listAnswer, renumberedOf, renumberLeaves, answerOf, lengthOf, changedOf};
+ghost use Rattle.renumber.specs.Renumber.{numberOf, placeOf, newRows, newFile, listAnswer, renumberedOf, renumberLeaves, answerOf, lengthOf, changedOf};
 
 // What a renumbering answers: what the file's own calls answer, or what is wrong with the lists.
 pub enum RenumberAnswer {

@@ -4,7 +4,7 @@ use denote.Ref.{now}
 use Rattle.renumber.proofs.Stops.{unrising-le, disordered-le, twice-le}
 use Rattle.renumber.proofs.Lists.{ordered-order, lengths-new, lengths-order, old-unrising, order-disordered, new-twice, lists-done}
 use mathlib.Core.Path.{_≡_, sym, _∙_}
-use Rattle.renumber.specs.Pairs.{unrisingAt, disorderedAt, twiceAt}
+use Rattle.renumber.specs.Pairs.{unrisingAt, disorderedAt}
 use lib.ListN.{length}
 use borrow.Author.Needs.{needs}
 use native.Mathlib.Omega.{arith}

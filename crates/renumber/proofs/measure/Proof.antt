@@ -1,17 +1,13 @@
 -- `renumber::measure` meets its contract: by what is known after each body of the walk.
 -- Assumes nothing.
-use Rattle.lists.proofs.Failing.{failing-few}
-use Prim.Native.Nat.{ℕ, _+_, _-_, _*_, _≤_, _<_}
-use Rattle.candidates.proofs.Choice.{chosen-short}
-use mathlib.Core.Path.{_≡_, sym, ap, subst, _∙_}
+use Prim.Native.Nat.{_-_, _≤_}
+use mathlib.Core.Path.{_≡_, _∙_}
 use Rattle.contents.specs.Contents.{count}
 use denote.Ref.{now}
-use Rattle.files.specs.Files.{blockIn}
 use Rattle.bodywise.proofs.Told.{count-read}
 use Rattle.lists.specs.Numbers.{Elements}
 use Rattle.renumber.proofs.Measuring.{Measuring, measuring-first, measuring-next, measuring-taken, measuring-all, size-small, changed-small, number-small, block-sized, block-changed}
 use Rattle.bodywise.proofs.Walking.{file-number}
-use lib.ListN.{length}
 use Rattle.rewrite.proofs.Rows.{right, few, block-long}
 use borrow.Author.Needs.{needs}
 use native.Mathlib.Omega.{arith}

@@ -11,7 +11,7 @@ use Rattle.contents.specs.Contents.{count}
 use Rattle.renumber.proofs.Calls.{refused, file-stops, lists-stop, row-stops, room-stops, nothing-stops, written, taken-le}
 use Rattle.renumber.proofs.Lists.{number-done, lists-taken, lists-paired}
 use Rattle.contents.specs.declared.FileAnswer.the-variants.{Done, Room}
-use mathlib.Core.Path.{_≡_, sym, ap, ap₂, _∙_}
+use mathlib.Core.Path.{_≡_, sym, ap₂, _∙_}
 use denote.Ref.{now}
 use Rattle.contents.proofs.Answers as Done
 use Rattle.bodywise.proofs.Told.{count-read}

@@ -1,11 +1,10 @@
 -- `renumber::replace_all` meets its contract: the front of the block is replaced, and what changed is counted.
 -- Assumes nothing.
-use mathlib.Core.Path.{_≡_, sym, ap, _∙_}
 use mathlib.Core.Logic.{⊎-elim}
 use denote.Ref.{now}
 use Rattle.renumber.proofs.Blocks.{Replaced, replaced-none, replaced-length, replaced-few, replaced-same, replaced-other, replaced-all}
-use Prim.Native.Nat.{ℕ, _-_, _≤_, _<_}
-use lib.ListN.{length, getD}
+use Prim.Native.Nat.{_-_, _<_}
+use lib.ListN.{length}
 use borrow.Author.Needs.{needs}
 use native.Mathlib.Omega.{arith}
 use Rattle.renumber.proofs.replace_all.Statement.{statement}

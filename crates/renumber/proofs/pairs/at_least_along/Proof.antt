@@ -1,12 +1,12 @@
 -- `renumber::pairs::at_least_along` meets its contract: the bounds close in on the place.
 -- Assumes nothing.
-use mathlib.Core.Path.{_≡_, sym, subst}
+use mathlib.Core.Path.{sym, subst}
 use Prim.Native.Nat.{_+_, _-_, _/_, _≤_, _<_}
 use Rattle.renumber.proofs.Tested.{length-along, getD-along}
 use Rattle.renumber.specs.Pairs.{along}
 use denote.Ref.{now}
 use Rattle.renumber.proofs.Halving.{Halved, halved-none, halved-up, halved-down, halved-done}
-use lib.ListN.{length, getD}
+use lib.ListN.{length}
 use native.Mathlib.Omega.{arith}
 use Rattle.renumber.proofs.pairs.at_least_along.Statement.{statement}
 use Rattle.renumber.proofs.pairs.at_least_along.Tie as tie

@@ -8,7 +8,7 @@ use denote.Ref.{now}
 use mathlib.Core.Path.{_≡_, sym, _∙_}
 use Rattle.renumber.specs.Pairs.{isOrderedAt}
 use Prim.Native.Nat.{ℕ, _-_, _≤_, _<_}
-use lib.ListN.{length, getD}
+use lib.ListN.{length}
 use native.Mathlib.Omega.{arith}
 use Rattle.renumber.proofs.pairs.first_disordered.Statement.{statement}
 use Rattle.renumber.proofs.pairs.first_disordered.Tie as tie

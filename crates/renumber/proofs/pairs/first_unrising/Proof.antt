@@ -6,8 +6,8 @@ use Rattle.renumber.proofs.Tested.{rises-first, rises-later, unrising-f
 use denote.Ref.{now}
 use mathlib.Core.Path.{_≡_}
 use Rattle.renumber.specs.Pairs.{risesAt}
-use Prim.Native.Nat.{ℕ, _-_, _≤_, _<_}
-use lib.ListN.{length, getD}
+use Prim.Native.Nat.{ℕ, _-_, _<_}
+use lib.ListN.{length}
 use native.Mathlib.Omega.{arith}
 use Rattle.renumber.proofs.pairs.first_unrising.Statement.{statement}
 use Rattle.renumber.proofs.pairs.first_unrising.Tie as tie
