@@ -36,7 +36,7 @@ extern "C" {
 #define FASCJOLDI_BOOL _Bool
 #endif
 
-/* The numbers. Where the meaning names the lowest place, entry or block, that is *place. */
+/* The numbers. Where the meaning names the lowest place, entry, block or row, that is *place. */
 enum fascjoldi_number {
     FASCJOLDI_DONE = 0, /* the call is done */
     FASCJOLDI_WIDTH = 1, /* the width is above T; of chunks: the width is above 64 */
@@ -60,6 +60,13 @@ enum fascjoldi_number {
     FASCJOLDI_RANGE = 15, /* of a file: a smallest or largest value is not the body's true one; the lowest block that has one */
     FASCJOLDI_EARLY = 16, /* of chunks: the values are asked for too early; the bytes held so far */
     FASCJOLDI_FOREIGN = 17, /* of a file: a block is not as our writer would write it; the lowest such block */
+    FASCJOLDI_LENGTHS = 18, /* of a renumbering: the three lists are not of one length */
+    FASCJOLDI_UNRISING = 19, /* of a renumbering: an old number is not above the one before it; the lowest such place */
+    FASCJOLDI_DISORDERED = 20, /* of a renumbering: a place of the order says no pair, or one that does not come behind the pair
+        before it; the lowest such place */
+    FASCJOLDI_TWICE = 21, /* of a renumbering: a new number stands at another place too; the lowest such place */
+    FASCJOLDI_TAKEN = 22, /* of a renumbering: a number that is not listed stands among the new numbers; the lowest row that has
+        one */
 };
 
 /* What stands for a count of packed words where there is none. */
@@ -277,6 +284,15 @@ size_t fascjoldi_file_write(const uint64_t *values, size_t values_length, uint8_
    is 0. The output behind the new file stays as it was. */
 size_t fascjoldi_file_rewrite(const uint8_t *file, size_t file_length, uint8_t *output, size_t output_length, size_t *length,
     size_t *place);
+
+/* Gives the rows of any readable column file new numbers and writes them as our writer would: a row whose number is the old
+   number of a pair gets the new number at the same place, and every other row stays. The old numbers have to rise, no new number
+   may stand twice, and the order has the places of the pairs by rising new number. A number of the file that is no old number may
+   not be a new one: so no two numbers become one. Says how many bytes the new file has and how many rows changed; refused, both
+   are 0. The output behind the new file stays as it was. */
+size_t fascjoldi_file_renumber(const uint8_t *file, size_t file_length, const uint64_t *olds, size_t olds_length,
+    const uint64_t *news, size_t news_length, const uint64_t *order, size_t order_length, uint8_t *output, size_t output_length,
+    size_t *length, size_t *changed, size_t *place);
 
 /* Lists the rows whose number lies between two bounds, both included, and says how many they are and how many blocks were opened;
    refused, both are 0. The room behind the rows stays as it was. */

@@ -81,7 +81,7 @@ static size_t size_a(struct head h)
 {
     switch (h.op) {
     case 13: case 14: return 8;
-    case 16: case 17: case 18: case 20: case 21: case 22: case 26: case 30: return 1;
+    case 16: case 17: case 18: case 20: case 21: case 22: case 26: case 30: case 31: return 1;
     default: return h.t / 8;
     }
 }
@@ -89,7 +89,7 @@ static size_t size_a(struct head h)
 static size_t size_b(struct head h)
 {
     switch (h.op) {
-    case 3: case 20: case 23: case 26: case 30: return 8;
+    case 3: case 20: case 23: case 26: case 30: case 31: return 8;
     case 10: return 2;
     default: return h.t / 8;
     }
@@ -99,7 +99,7 @@ static size_t size_c(struct head h)
 {
     switch (h.op) {
     case 13: case 14: return 8;
-    case 19: case 21: return 1;
+    case 19: case 21: case 31: return 1;
     default: return h.t / 8;
     }
 }
@@ -234,6 +234,22 @@ static int call_chunks(struct head h, struct reply *r)
     return 1;
 }
 
+/* A renumbering: b has the old numbers, the new ones and the order, one after another. */
+static int call_renumber(struct head h, struct reply *r)
+{
+    size_t length = 77, changed = 77;
+    if (h.t != 64 || h.reference > h.n_b || h.index > h.n_b - h.reference) {
+        return 0;
+    }
+    const uint64_t *olds = b.elements;
+    const uint64_t *news = olds + h.reference;
+    const uint64_t *order = news + h.index;
+    r->number = fascjoldi_file_renumber((const uint8_t *)a.elements, h.n_a, olds, h.reference, news, h.index, order,
+        h.n_b - h.reference - h.index, (uint8_t *)c.elements, h.n_c, &length, &changed, &r->place);
+    r->value = (uint64_t)length << 32 | changed;
+    return 1;
+}
+
 /* The calls that are there for u64 alone, and those of every size; 0 where there is no such call. */
 static int call(struct head h, struct reply *r)
 {
@@ -274,6 +290,8 @@ static int call(struct head h, struct reply *r)
         return 1;
     case 26: case 30:
         return call_chunks(h, r);
+    case 31:
+        return call_renumber(h, r);
     default:
         return h.t == 8 ? call_u8(h, r) : h.t == 16 ? call_u16(h, r) : h.t == 32 ? call_u32(h, r) : h.t == 64 ? call_u64(h, r) : 0;
     }

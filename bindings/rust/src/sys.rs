@@ -234,6 +234,10 @@ pub mod columns {
         #[link_name = "fascjoldi_file_rewrite"]
         pub fn file_rewrite(file: *const u8, file_length: usize, output: *mut u8, output_length: usize, length: &mut usize,
             place: &mut usize) -> usize;
+        #[link_name = "fascjoldi_file_renumber"]
+        pub fn file_renumber(file: *const u8, file_length: usize, olds: *const u64, olds_length: usize, news: *const u64,
+            news_length: usize, order: *const u64, order_length: usize, output: *mut u8, output_length: usize, length: &mut usize,
+            changed: &mut usize, place: &mut usize) -> usize;
         #[link_name = "fascjoldi_file_search"]
         pub fn file_search(file: *const u8, file_length: usize, low: u64, high: u64, rows: *mut u64, rows_length: usize,
             found: &mut usize, opened: &mut usize, place: &mut usize) -> usize;

@@ -9,9 +9,10 @@ use Rattle.contents.specs.declared.Range.{Range}
 use Rattle.bodywise.specs.declared.Body.{Body}
 use Rattle.files.specs.declared.Row.{Row}
 use Rattle.writer.specs.declared.Written.{Written}
+use Rattle.renumber.specs.declared.Renumbered.{Renumbered}
 use Rattle.search.specs.declared.Found.{Found}
 use Rattle.compare.specs.declared.Compared.{Compared}
-use Rattle.exports.specs.FileHanded.{FileHanded, RowHanded, WrittenHanded, FoundHanded, ComparedHanded, EntryHanded, RangeHanded, BodyHanded}
+use Rattle.exports.specs.FileHanded.{FileHanded, RowHanded, WrittenHanded, RenumberedHanded, FoundHanded, ComparedHanded, EntryHanded, RangeHanded, BodyHanded}
 
 pub file-on : {a b : FileAnswer} {n p : ℕ} → a ≡ b → FileHanded a n p → FileHanded b n p
 file-on {n = n} {p = p} = subst (λ x. FileHanded x n p)
@@ -21,6 +22,9 @@ row-on {n = n} {v = v} {w = w} {p = p} = subst (λ x. RowHanded x n v w p)
 
 pub written-on : {a b : Written} {n l p : ℕ} → a ≡ b → WrittenHanded a n l p → WrittenHanded b n l p
 written-on {n = n} {l = l} {p = p} = subst (λ x. WrittenHanded x n l p)
+
+pub renumbered-on : {a b : Renumbered} {n l k p : ℕ} → a ≡ b → RenumberedHanded a n l k p → RenumberedHanded b n l k p
+renumbered-on {n = n} {l = l} {k = k} {p = p} = subst (λ x. RenumberedHanded x n l k p)
 
 pub found-on : {a b : Found} {n k o p : ℕ} → a ≡ b → FoundHanded a n k o p → FoundHanded b n k o p
 found-on {n = n} {k = k} {o = o} {p = p} = subst (λ x. FoundHanded x n k o p)

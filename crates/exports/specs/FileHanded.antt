@@ -14,6 +14,8 @@ use Rattle.files.specs.declared.Row.the-variants.{Counted, Uncounted, Refused}
 use Rattle.files.specs.Rows as row
 use Rattle.writer.specs.declared.Written.{Written}
 use Rattle.writer.specs.Writer as writer
+use Rattle.renumber.specs.declared.Renumbered.{Renumbered}
+use Rattle.renumber.specs.Renumber as renumber
 use Rattle.search.specs.declared.Found.{Found}
 use Rattle.search.specs.Search as search
 use Rattle.compare.specs.declared.Compared.{Compared}
@@ -41,6 +43,13 @@ pub record RowHanded (found : Row) (number value words place : ℕ) : Type 0 whe
 pub record WrittenHanded (written : Written) (number length place : ℕ) : Type 0 where
   pub its-answer : FileHanded (writer.answerOf written) number place
   pub its-length : length ≡ writer.lengthOf written
+
+-- Of a renumbering it is the new file's length and how many rows changed. Its answers are more than those of a file.
+pub record RenumberedHanded (result : Renumbered) (number length changed place : ℕ) : Type 0 where
+  pub its-number : number ≡ renumber.numberOf (renumber.answerOf result)
+  pub its-place : place ≡ renumber.placeOf (renumber.answerOf result)
+  pub its-length : length ≡ renumber.lengthOf result
+  pub its-changed : changed ≡ renumber.changedOf result
 
 -- Of a search it is how many rows were found, and how many blocks were opened for it.
 pub record FoundHanded (result : Found) (number found opened place : ℕ) : Type 0 where

@@ -25,6 +25,8 @@ use files::Row;
 use files::block_out;
 use files::row_at;
 use files::row_from;
+use renumber::Renumbered;
+use renumber::renumber;
 use rewrite::rewrite;
 use search::Found;
 use search::opens;
@@ -42,12 +44,13 @@ ghost use Rattle.writer.specs.Writer.{writtenOf, fileLeaves};
 ghost use Rattle.search.specs.Search.{foundOf, searchLeaves};
 ghost use Rattle.search.specs.Steps.{opensBy, listedOf, listedLeaves};
 ghost use Rattle.rewrite.specs.Rewrite.{rewrittenOf, rewriteLeaves};
+ghost use Rattle.renumber.specs.Renumber.{renumberedOf, renumberLeaves};
 ghost use Rattle.canonical.specs.Canonical.{canonicalTests};
 ghost use Rattle.bodywise.specs.Cursor.{bodyAt, firstBody, nextBody};
 ghost use Rattle.bodywise.specs.Steps.{frontSize, heldTests as bodyTests, heldLeaves as bodyLeaves, rangeTests};
 ghost use Rattle.compare.specs.Changes.{comparedOf, differingLeaves};
 ghost use Rattle.compare.specs.Ranges.{sameRange};
-ghost use Rattle.exports.specs.FileHanded.{FileHanded, rowWords, RowHanded, WrittenHanded, FoundHanded, ComparedHanded, EntryHanded, RangeHanded, BodyHanded};
+ghost use Rattle.exports.specs.FileHanded.{FileHanded, rowWords, RowHanded, WrittenHanded, RenumberedHanded, FoundHanded, ComparedHanded, EntryHanded, RangeHanded, BodyHanded};
 
 // Checks a column file, whole.
 #[no_mangle]
@@ -130,6 +133,41 @@ pub extern "C" fn fascjoldi_file_rewrite(
     ensures { λ _. ⌜ now (output .exit) ≡ rewriteLeaves (now (file .entry)) (now (output .entry)) ⌝ }
 {
     hand_written(rewrite(file, output), length, place)
+}
+
+// Gives the rows of any readable column file new numbers and writes them as our writer would: a row whose number is the
+// old number of a pair gets the new number at the same place, and every other row stays. The old numbers have to rise,
+// no new number may stand twice, and the order has the places of the pairs by rising new number. A number of the file
+// that is no old number may not be a new one: so no two numbers become one. Says how many bytes the new file has and
+// how many rows changed; refused, both are 0. The output behind the new file stays as it was.
+#[no_mangle]
+pub extern "C" fn fascjoldi_file_renumber(
+    file: &[u8],
+    olds: &[u64],
+    news: &[u64],
+    order: &[u64],
+    output: &mut [u8],
+    length: &mut usize,
+    changed: &mut usize,
+    place: &mut usize,
+) -> usize
+    ensures { λ r. ⌜
+        RenumberedHanded
+        (renumberedOf (now (file .entry)) (now (olds .entry)) (now (news .entry)) (now (order .entry))
+        (now (output .entry))) r (now (length .exit)) (now (changed .exit)) (now (place .exit))
+        ⌝ }
+    ensures { λ _. ⌜
+        now (output .exit)
+        ≡ renumberLeaves (now (file .entry)) (now (olds .entry)) (now (news .entry)) (now (order .entry))
+        (now (output .entry))
+        ⌝ }
+{
+    hand_renumbered(
+        renumber(file, olds, news, order, output),
+        length,
+        changed,
+        place,
+    )
 }
 
 // Lists the rows whose number lies between two bounds, both included, and says how many they are and how many blocks
@@ -447,6 +485,22 @@ fn hand_written(written: Written, length: &mut usize, place: &mut usize) -> usiz
 {
     *length = written.length();
     hand(written.answer(), place)
+}
+
+// Hands over what a renumbering gives.
+fn hand_renumbered(
+    result: Renumbered,
+    length: &mut usize,
+    changed: &mut usize,
+    place: &mut usize,
+) -> usize
+    ensures { λ r. ⌜ RenumberedHanded result r (now (length .exit)) (now (changed .exit)) (now (place .exit)) ⌝ }
+{
+    *length = result.length();
+    *changed = result.changed();
+    let answer = result.answer();
+    *place = answer.place();
+    answer.number()
 }
 
 // Hands over what a search gives.

@@ -1,11 +1,12 @@
 // The calls on files, drawers and a body that trickles in: what each takes, and how those on files are made. A call
-// has a line in `takes`; one that reads a file has a line in `call`, those that write a file are made by `write` and
-// `rewrite`, the calls on drawers are made in the modules drawer of the sizes, and those on a body that trickles in
+// has a line in `takes`; one that reads a file has a line in `call`, those that write a file are made by `write`,
+// `rewrite` and `renumber`, the calls on drawers are made in the modules drawer of the sizes, and those on a body that trickles in
 // in trickles.
 use access::NO_COUNT;
 use access::Words;
 use contents::FileAnswer;
 use files::Row;
+use renumber::Renumbered;
 use search::Found;
 use stream::Head;
 use stream::Reply;
@@ -42,6 +43,7 @@ fn takes(op: u8, size: usize) -> Intake {
         24 | 25 => Intake::of(size, 0, size, true),
         26 => Intake::of(1, 8, 8, false),
         30 => Intake::of(1, 8, 8, true),
+        31 => Intake::of(1, 8, 1, true),
         _ => Intake::of(0, 0, 0, false),
     }
 }
@@ -66,6 +68,13 @@ fn has_bounds(head: Head) -> bool {
     head.op != 20 || head.n_b == 2
 }
 
+// Whether the record has the lists that its call takes: of a renumbering the reference says how many numbers of b are
+// old, the index how many behind them are new, and the rest is the order.
+fn has_lists(head: Head) -> bool {
+    let n = head.n_b as u64;
+    head.op != 31 || (head.reference <= n && head.index <= n - head.reference)
+}
+
 // Whether a record can have this head.
 pub fn is_possible(head: Head) -> bool {
     let takes = takes(head.op, (head.t / 8) as usize);
@@ -73,6 +82,7 @@ pub fn is_possible(head: Head) -> bool {
         && (is_drawer(head.op) || is_trickle(head.op) || head.width == 0)
         && (head.op != 30 || is_trickle_state(head))
         && has_bounds(head)
+        && has_lists(head)
         && head.zero == 0
         && (takes.index || head.index == 0)
         && fits(head.n_a, takes.a)
@@ -105,6 +115,11 @@ pub fn rewrites(op: u8) -> bool {
     op == 21
 }
 
+// Whether the call renumbers a file. Then both a and c are bytes, and b has the lists.
+pub fn renumbers(op: u8) -> bool {
+    op == 31
+}
+
 // Makes the call that reads a file on the buffers that it takes. Where there is no such call, nothing is given back.
 pub fn call(head: Head, a: &[u8], bounds: &[u64; 2], c: &mut [u64]) -> Reply {
     let op = head.op;
@@ -127,6 +142,18 @@ pub fn write(values: &[u64], output: &mut [u8]) -> Reply {
 // Makes the call that rewrites a file.
 pub fn rewrite(file: &[u8], output: &mut [u8]) -> Reply {
     of_written(rewrite::rewrite(file, output))
+}
+
+// Makes the call that renumbers a file.
+pub fn renumber(
+    head: Head,
+    file: &[u8],
+    old: &[u64],
+    new: &[u64],
+    order: &[u64],
+    output: &mut [u8],
+) -> Reply {
+    of_renumbered(head, renumber::renumber(file, old, new, order, output))
 }
 
 // The reply of a call on a file that gives back no reference.
@@ -164,4 +191,18 @@ fn of_found(found: Found) -> Reply {
 // Of a refused write the length is 0.
 fn of_written(written: Written) -> Reply {
     reply(written.answer(), written.length() as u64)
+}
+
+// A renumbering gives back the length times 2^32 and the count of rows that changed in one value; of a refused one both
+// are 0. What it takes as the reference and the index stays.
+fn of_renumbered(head: Head, renumbered: Renumbered) -> Reply {
+    let answer = renumbered.answer();
+    let length = renumbered.length() as u64;
+    Reply::Given {
+        number: answer.number() as u64,
+        place: answer.place() as u64,
+        value: (length << 32) | (renumbered.changed() as u64),
+        reference: head.reference,
+        index: head.index,
+    }
 }

@@ -10,8 +10,8 @@
 // Here stand the loop over the cases and the way to each. Of the modules, wire reads the stream. block_calls says
 // what the calls on blocks take, and block_cases has their cases: t8, t16, t32 and t64 make the calls, with the help
 // of indices, and bit_block those on bit blocks; outcome compares. file_calls says what the others take; file_cases
-// makes the calls on files but for the one that rewrites a file, which rewrites makes; the module drawer of each size
-// makes those on drawers, and trickles those on a body that comes in chunks. print prints. The crate stream has the
+// makes the calls on files but for the one that rewrites a file, which rewrites makes, and the one that renumbers one,
+// which renumberings makes; the module drawer of each size makes those on drawers, and trickles those on a body that comes in chunks. print prints. The crate stream has the
 // head of a record, the judge and the counts.
 mod bit_block;
 mod block_calls;
@@ -21,6 +21,7 @@ mod file_cases;
 mod indices;
 mod outcome;
 mod print;
+mod renumberings;
 mod rewrites;
 mod t16;
 mod t32;
@@ -32,6 +33,7 @@ mod wire;
 use block_calls::is_block;
 use file_calls::is_drawer;
 use file_calls::is_trickle;
+use file_calls::renumbers;
 use file_calls::rewrites;
 use print::print_bad;
 use print::print_tally;
@@ -126,6 +128,9 @@ fn case(head: Head) -> Step {
     }
     if rewrites(head.op) {
         return rewrites::case(head);
+    }
+    if renumbers(head.op) {
+        return renumberings::case(head);
     }
     file_cases::case(head)
 }

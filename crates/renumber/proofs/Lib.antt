@@ -1,0 +1,15 @@
+pub mod Becoming
+pub mod Blocks
+pub mod Calls
+pub mod Exactly
+pub mod FileRenumbered
+pub mod Halving
+pub mod Lists
+pub mod Measuring
+pub mod Orders
+pub mod Places
+pub mod Rows
+pub mod Stops
+pub mod Tested
+pub mod Twins
+pub mod Undone

@@ -1,0 +1,5 @@
+pub mod InnerBlocks
+pub mod InnerPairs
+pub mod Pairs
+pub mod Reasons
+pub mod Renumber
