@@ -1,6 +1,7 @@
 /* The verb changes: the rows at which two files differ. What is read and what is printed, and in which order, a proved
  * machine says; here its wishes are granted one after another. A file that does not open, or cannot be read, is one of
  * no bytes to it. */
+#include "changes.h"
 #include "fascjoldi.h"
 #include "output.h"
 #include "source.h"
@@ -10,8 +11,7 @@
 enum { PARTS = 2, SIDES = 2 };
 
 struct side {
-    struct source source;
-    bool is_open;
+    struct source *source; /* null where it did not open */
     bool has_failed; /* a read of it failed, and why was said */
     uint8_t *part[PARTS];
     size_t length[PARTS];
@@ -24,14 +24,10 @@ struct wish {
 
 static const size_t part_room[PARTS] = {FASCJOLDI_FRONT_ROOM, FASCJOLDI_BODY_ROOM};
 
-static void open_side(struct side *side, const char *name, struct result *result)
+static void open_side(struct side *side, struct source *source)
 {
-    struct result why;
-    result_begin(&why);
+    side->source = source;
     side->has_failed = false;
-    side->is_open = source_open(&side->source, name, &why);
-    bytes_add(&result->err, why.err.at, why.err.length);
-    result_free(&why);
     for (size_t i = 0; i < PARTS; i++) {
         side->part[i] = room_for(part_room[i], 1);
         side->length[i] = 0;
@@ -40,8 +36,6 @@ static void open_side(struct side *side, const char *name, struct result *result
 
 static void close_side(struct side *side)
 {
-    if (side->is_open)
-        source_close(&side->source);
     for (size_t i = 0; i < PARTS; i++)
         free(side->part[i]);
 }
@@ -50,9 +44,9 @@ static void close_side(struct side *side)
 static void read_part(struct side *side, const struct wish *wish, struct result *result)
 {
     size_t got = 0;
-    if (side->is_open && !source_read(&side->source, wish->start, side->part[wish->part], wish->length, &got)) {
+    if (side->source != NULL && !source_read(side->source, wish->start, side->part[wish->part], wish->length, &got)) {
         if (!side->has_failed)
-            fail_read(result, side->source.name);
+            fail_read(result, side->source->name);
         side->has_failed = true;
         got = 0;
     }
@@ -88,28 +82,26 @@ static size_t leading_number(const uint8_t *text, size_t length, uint64_t *numbe
 
 /* A refusal is said once more on standard error, with its meaning; but where the file could not be read, that was said
  * already. */
-static void explain(
-    const uint8_t *line, size_t length, const struct task *task, struct side *sides, struct result *result)
+static void explain(const uint8_t *line, size_t length, struct side *sides, struct result *result)
 {
     size_t which = begins(line, length, "refused left ") ? 0 : 1;
     size_t at = strlen(which == 0 ? "refused left " : "refused right ");
     uint64_t number, place;
     at += leading_number(line + at, length - at, &number) + 1;
     leading_number(line + at, length - at, &place);
-    if (sides[which].is_open && !sides[which].has_failed)
-        refuse(result, task->files[which], number, place);
+    if (sides[which].source != NULL && !sides[which].has_failed)
+        refuse(result, sides[which].source->name, number, place);
     result->status = 2;
 }
 
 /* The lines of one write, of which the last ones decide the status. */
-static void look_at(
-    const uint8_t *lines, size_t length, const struct task *task, struct side *sides, struct result *result)
+static void look_at(const uint8_t *lines, size_t length, struct side *sides, struct result *result)
 {
     while (length > 0) {
         const uint8_t *newline = memchr(lines, '\n', length);
         size_t n = newline == NULL ? length : (size_t)(newline - lines) + 1;
         if (begins(lines, n, "refused "))
-            explain(lines, n, task, sides, result);
+            explain(lines, n, sides, result);
         else if (!begins(lines, n, "differences 0\n"))
             result->status = result->status == 2 ? 2 : 1;
         lines += n;
@@ -119,14 +111,14 @@ static void look_at(
 
 /* ---- the run */
 
-static void run(const struct task *task, struct side *sides, struct result *result)
+static void run(struct side *sides, struct result *result)
 {
     uint8_t *output = room_for(FASCJOLDI_OUTPUT_ROOM, 1);
     uint64_t state[8];
     struct wish wish;
     size_t sizes[SIDES];
     for (size_t i = 0; i < SIDES; i++)
-        sizes[i] = sides[i].is_open ? sides[i].source.size : 0;
+        sizes[i] = sides[i].source != NULL ? sides[i].source->size : 0;
     wish.what = fascjoldi_listing_start(sizes[0], sizes[1], state, &wish.side, &wish.part, &wish.start, &wish.length);
     for (size_t turn = fascjoldi_listing_turns(); turn > 0 && wish.what != FASCJOLDI_WISH_DONE; turn--) {
         if (wish.what == FASCJOLDI_WISH_READ) {
@@ -137,23 +129,46 @@ static void run(const struct task *task, struct side *sides, struct result *resu
         } else {
             size_t n = wish.length < FASCJOLDI_OUTPUT_ROOM ? wish.length : FASCJOLDI_OUTPUT_ROOM;
             output_lines(output, n);
-            look_at(output, n, task, sides, result);
+            look_at(output, n, sides, result);
         }
         next_wish(&wish, state, sides, output);
     }
     free(output);
 }
 
-int do_changes(const struct task *task)
+void list_changes(struct source *left, struct source *right, struct result *result)
 {
     struct side sides[SIDES];
-    struct result result;
-    result_begin(&result);
-    for (size_t i = 0; i < SIDES; i++)
-        open_side(&sides[i], task->files[i], &result);
-    run(task, sides, &result);
+    open_side(&sides[FASCJOLDI_LEFT], left);
+    open_side(&sides[FASCJOLDI_RIGHT], right);
+    run(sides, result);
     for (size_t i = 0; i < SIDES; i++)
         close_side(&sides[i]);
+}
+
+/* Opens a file; one that does not open is said, and is none. */
+static struct source *open_or_none(struct source *source, const char *name, struct result *result)
+{
+    struct result why;
+    result_begin(&why);
+    bool is_open = source_open(source, name, &why);
+    bytes_add(&result->err, why.err.at, why.err.length);
+    result_free(&why);
+    return is_open ? source : NULL;
+}
+
+int do_changes(const struct task *task)
+{
+    struct source left, right;
+    struct result result;
+    result_begin(&result);
+    struct source *from = open_or_none(&left, task->files[0], &result);
+    struct source *to = open_or_none(&right, task->files[1], &result);
+    list_changes(from, to, &result);
+    if (from != NULL)
+        source_close(from);
+    if (to != NULL)
+        source_close(to);
     int status = result.status;
     result_print(&result);
     return status;

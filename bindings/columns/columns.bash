@@ -1,7 +1,7 @@
 # Completion of the program columns for bash: verbs, the options of a verb, and column files.
 # tools/install_test holds the verbs and options to what `columns help` says.
 _columns() {
-    local verbs='check show row rows find write rewrite canonical changes help'
+    local verbs='check show row rows find write rewrite renumber canonical changes help'
     local word=${COMP_WORDS[COMP_CWORD]} before=${COMP_WORDS[COMP_CWORD - 1]} options='' dashed=1 i
     COMPREPLY=()
     if [ "$COMP_CWORD" -eq 1 ]; then
@@ -15,6 +15,7 @@ _columns() {
     find) options='-H -q -j --as-one --with' ;;
     write) options='-f --empty --rows --split' ;;
     rewrite) options='-f' ;;
+    renumber) options='-f -n' ;;
     canonical) options='-H -j' ;;
     changes) ;;
     help)

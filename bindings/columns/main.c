@@ -16,6 +16,7 @@ static int do_task(const struct task *task)
     case FIND: return do_find(task);
     case WRITE: return do_write(task);
     case REWRITE: return do_rewrite(task);
+    case RENUMBER: return do_renumber(task);
     case CANONICAL: return do_canonical(task);
     case CHANGES: return do_changes(task);
     case VERBS: break;

@@ -38,6 +38,7 @@ enum {
 void *calloc(size_t count, size_t each);
 void *realloc(void *old, size_t size);
 void free(void *old);
+void qsort(void *list, size_t count, size_t each, int (*order)(const void *left, const void *right));
 void *memcpy(void *to, const void *from, size_t count);
 void *memmove(void *to, const void *from, size_t count);
 void *memchr(const void *from, int byte, size_t count);

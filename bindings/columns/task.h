@@ -4,11 +4,12 @@
 
 #include "room.h"
 
-enum verb { CHECK, SHOW, ROWS, ROW, FIND, WRITE, REWRITE, CANONICAL, CHANGES, VERBS };
+enum verb { CHECK, SHOW, ROWS, ROW, FIND, WRITE, REWRITE, RENUMBER, CANONICAL, CHANGES, VERBS };
 
 struct task {
     enum verb verb;
     bool force;        /* -f */
+    bool is_dry;       /* -n */
     bool is_named;     /* -H, or several files: each line begins with the file's name */
     bool is_quiet;     /* -q */
     bool is_tabbed;    /* -t */

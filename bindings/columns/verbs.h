@@ -12,6 +12,7 @@ int do_rows(const struct task *task);
 int do_find(const struct task *task);
 int do_write(const struct task *task);
 int do_rewrite(const struct task *task);
+int do_renumber(const struct task *task);
 int do_changes(const struct task *task);
 
 #endif

@@ -17,7 +17,8 @@ enum option {
     OPTION_EMPTY = 128,
     OPTION_ROWS = 256,
     OPTION_SPLIT = 512,
-    OPTION_WITH = 1024
+    OPTION_WITH = 1024,
+    OPTION_N = 2048
 };
 
 struct named_option {
@@ -28,6 +29,7 @@ struct named_option {
 
 static const struct named_option options[] = {
     {"-f", OPTION_F, false},
+    {"-n", OPTION_N, false},
     {"-H", OPTION_H, false},
     {"-q", OPTION_Q, false},
     {"-t", OPTION_T, false},
@@ -54,6 +56,7 @@ static const struct verb_words verbs[VERBS] = {
     [FIND] = {"find", OPTION_H | OPTION_J | OPTION_Q | OPTION_AS_ONE | OPTION_WITH},
     [WRITE] = {"write", OPTION_F | OPTION_EMPTY | OPTION_ROWS | OPTION_SPLIT},
     [REWRITE] = {"rewrite", OPTION_F},
+    [RENUMBER] = {"renumber", OPTION_F | OPTION_N},
     [CANONICAL] = {"canonical", OPTION_H | OPTION_J},
     [CHANGES] = {"changes", 0},
 };
@@ -128,6 +131,7 @@ static void set_option(struct reading *reading, enum option option, const char *
     reading->given |= option;
     switch (option) {
     case OPTION_F: task->force = true; break;
+    case OPTION_N: task->is_dry = true; break;
     case OPTION_H: task->is_named = true; break;
     case OPTION_Q: task->is_quiet = true; break;
     case OPTION_T: task->is_tabbed = true; break;
@@ -278,6 +282,13 @@ static void read_rows(struct reading *reading)
         wrong_use(reading, "'-t' lays files side by side, which goes with neither '--as-one' nor '-H'");
 }
 
+/* The name of a new file. */
+static void is_no_input(struct reading *reading, const char *name)
+{
+    if (strcmp(name, "-") == 0)
+        wrong_use(reading, "'-' is standard input, and no name of a new file; say './-' for a file of that name");
+}
+
 static void read_new_file(struct reading *reading)
 {
     struct task *task = reading->task;
@@ -287,9 +298,20 @@ static void read_new_file(struct reading *reading)
                            : task->prefix != NULL
                                ? "'write --split' takes the front of the names, and no other"
                                : "'write' takes the name of a file, and the numbers on standard input");
-    const char *name = task->prefix != NULL ? task->prefix : task->files[wanted - 1];
-    if (strcmp(name, "-") == 0)
-        wrong_use(reading, "'-' is standard input, and no name of a new file; say './-' for a file of that name");
+    is_no_input(reading, task->prefix != NULL ? task->prefix : task->files[wanted - 1]);
+}
+
+static void read_renumber(struct reading *reading)
+{
+    struct task *task = reading->task;
+    if (task->is_dry && task->force)
+        wrong_use(reading, "'-n' writes nothing, so '-f' does not go with it");
+    if (task->file_count != (task->is_dry ? 1 : 2))
+        wrong_use(reading, task->is_dry ? "'renumber -n' takes a file, and the pairs on standard input"
+                                        : "'renumber' takes a file and the name of a new one, and the pairs on standard input");
+    if (strcmp(task->files[0], "-") == 0)
+        wrong_use(reading, "'-' is standard input, which has the pairs; say './-' for a file of that name");
+    is_no_input(reading, task->files[task->file_count - 1]);
 }
 
 /* Standard input can be read once. */
@@ -353,6 +375,7 @@ void task_read(struct task *task, int count, char **words)
     case ROWS: read_rows(&reading); break;
     case WRITE:
     case REWRITE: read_new_file(&reading); break;
+    case RENUMBER: read_renumber(&reading); break;
     case CHANGES:
         if (task->file_count != 2)
             wrong_use(&reading, "'changes' takes two files");

@@ -1,5 +1,6 @@
 /* The verbs that make files: write and rewrite. Nothing is made before all of the input was read and is good. */
 #include "fascjoldi.h"
+#include "lines.h"
 #include "output.h"
 #include "source.h"
 #include "store.h"
@@ -8,125 +9,54 @@
 
 /* ---- the numbers on standard input */
 
-/* How far the input is: the line that is gathered, and how many numbers there were. */
+/* How far the input is: its lines, and the values of the file that is filled now. */
 struct input {
-    struct bytes line;
-    uint64_t count;
-    uint64_t *values; /* those of the file that is filled now, */
-    size_t filled;    /* and how many they are */
+    struct lines lines;
+    uint64_t *values;
+    size_t filled;
     struct result *result;
 };
 
 /* What is done where the values are as many as a file has; false where there is a complaint. */
 typedef bool full_file(struct input *input, void *with);
 
+/* The input, with what is done for a full file. */
+struct filling {
+    struct input *input;
+    full_file *full;
+    void *with;
+};
+
 /* A line that is longer is no number: zeros before one are taken up to there. */
-enum { LINE_MOST = 64, CHUNK = 65536 };
-
-/* "standard input, line N: ", and what is wrong there. */
-static struct bytes *wrong_line(struct input *input)
-{
-    struct bytes *err = &input->result->err;
-    input->result->status = 2;
-    bytes_text(err, "columns: standard input, line ");
-    bytes_number(err, input->count + 1);
-    bytes_text(err, ": ");
-    return err;
-}
-
-static bool refuse_line(struct input *input, const char *sentence)
-{
-    struct bytes *err = wrong_line(input);
-    bytes_text(err, sentence);
-    bytes_text(err, "\n");
-    return false;
-}
-
-static bool refuse_byte(struct input *input, size_t place)
-{
-    if (place + 1 == input->line.length && input->line.at[place] == '\r')
-        return refuse_line(input,
-            "the line ends with a carriage return, as lines from Windows do (CRLF); `tr -d '\\r'` takes them out");
-    struct bytes *err = wrong_line(input);
-    bytes_text(err, "no number: byte ");
-    bytes_number(err, place + 1);
-    bytes_text(err, " is no digit; each line has one number without a sign\n");
-    return false;
-}
+enum { LINE_MOST = 64 };
 
 /* A line has ended: the number that it is. */
-static bool take_line(struct input *input)
+static bool take_line(struct lines *lines, void *with)
 {
-    uint64_t number;
-    size_t place;
-    switch (number_of(input->line.at, input->line.length, &number, &place)) {
-    case READ_EMPTY: return refuse_line(input, "no number stands there; each line has one");
-    case READ_LARGE: return refuse_line(input, "the number is too large; the largest is 18446744073709551615");
-    case READ_OTHER: return refuse_byte(input, place);
-    case READ_NUMBER: break;
-    }
-    input->line.length = 0;
-    input->values[input->filled++] = number;
-    input->count++;
-    return true;
+    struct input *input = ((struct filling *)with)->input;
+    return lines_number(lines, 0, lines->line.length, &input->values[input->filled]) && ++input->filled > 0;
 }
 
-/* Takes bytes more. A number beyond those of a full file asks first what is done with that one. */
-static bool take(struct input *input, const uint8_t *bytes, size_t length, full_file *full, void *with)
+/* A number beyond those of a full file asks first what is done with that one. */
+static bool before_line(struct lines *lines, void *with)
 {
-    while (length > 0) {
-        const uint8_t *newline = memchr(bytes, '\n', length);
-        size_t part = newline == NULL ? length : (size_t)(newline - bytes);
-        if (input->filled == MOST_ROWS && !full(input, with))
-            return false;
-        if (part > LINE_MOST - input->line.length)
-            return refuse_line(input, "no number: the line has more than 64 bytes; each line has one number");
-        bytes_add(&input->line, bytes, part);
-        if (newline == NULL)
-            return true;
-        if (!take_line(input))
-            return false;
-        bytes += part + 1;
-        length -= part + 1;
-    }
-    return true;
+    struct filling *filling = with;
+    (void)lines;
+    return filling->input->filled < MOST_ROWS || filling->full(filling->input, filling->with);
 }
 
 /* Reads standard input to its end. */
 static bool take_all(struct input *input, full_file *full, void *with)
 {
-    uint8_t *chunk = room_for(CHUNK, 1);
-    bool good = true;
-    while (good) {
-        long got = read(0, chunk, CHUNK);
-        if (got < 0 && errno == EINTR)
-            continue;
-        if (got < 0 && errno == EAGAIN) {
-            struct pollfd one = {0, POLLIN, 0};
-            poll(&one, 1, -1);
-            continue;
-        }
-        if (got <= 0) {
-            if (got < 0)
-                fail_system(input->result, "-", "a read failed: ", "; nothing is written");
-            good = got == 0;
-            break;
-        }
-        good = take(input, chunk, (size_t)got, full, with);
-        if (progress_is_shown())
-            progress_say("columns: ", input->count, NULL, 0, " numbers are read");
-    }
-    free(chunk);
-    if (good && input->line.length > 0)
-        return refuse_line(input, "the line does not end, so the number may be cut short; end it with a newline");
-    return good;
+    struct filling filling = {input, full, with};
+    return lines_all(&input->lines, take_line, before_line, &filling);
 }
 
 /* Whether the count is one that is wanted: whole blocks, not none unless that was said, and as many as was said. */
 static bool is_right_count(const struct task *task, struct input *input)
 {
     struct bytes *err = &input->result->err;
-    uint64_t n = input->count;
+    uint64_t n = input->lines.count;
     if (task->has_count && n != task->count) {
         bytes_text(err, "columns: standard input: there are ");
         bytes_number(err, n);
@@ -154,8 +84,8 @@ static bool is_right_count(const struct task *task, struct input *input)
 static bool too_many(struct input *input, void *with)
 {
     (void)with;
-    return refuse_line(
-        input, "there are more than 262144 numbers, which is the most that a file has; --split lays them into several");
+    return lines_refuse(&input->lines,
+        "there are more than 262144 numbers, which is the most that a file has; --split lays them into several");
 }
 
 /* The file of the values that are there. */
@@ -319,12 +249,12 @@ int do_write(const struct task *task)
     result_begin(&result);
     struct input input = {.values = room_for(MOST_ROWS, sizeof(uint64_t)), .result = &result};
     uint8_t *file = room_for(LONGEST_WRITTEN, 1);
-    bytes_begin(&input.line);
+    lines_begin(&input.lines, LINE_MOST, "each line has one number", " numbers are read", &result);
     if (task->prefix != NULL)
         write_parts(task, &input, file);
     else
         write_one(task, &input, file);
-    bytes_free(&input.line);
+    lines_end(&input.lines);
     free(input.values);
     free(file);
     int status = result.status;
