@@ -231,7 +231,7 @@ static bool count_used(struct source *source, const struct lists *lists, size_t 
 }
 
 /* "renumbered K of M rows, U of N pairs have no row" */
-static void say_done(struct result *result, uint64_t changed, size_t unused, size_t pairs)
+static void say_done(struct result *result, size_t changed, size_t unused, size_t pairs)
 {
     struct bytes *out = &result->out;
     bytes_text(out, "renumbered ");
@@ -262,8 +262,7 @@ static void renumber_with(
 {
     struct lists lists;
     uint8_t *file = room_for(LONGEST_WRITTEN, 1);
-    size_t length, place, used;
-    uint64_t changed;
+    size_t length, changed, place, used;
     lists_begin(&lists, pairs);
     size_t number = fascjoldi_file_renumber(source->bytes.at, source->bytes.length, lists.before, lists.length, lists.after,
         lists.length, lists.order, lists.length, file, LONGEST_WRITTEN, &length, &changed, &place);
