@@ -57,13 +57,14 @@ fn renumber_on_parts(head: Head, file: &[u8], lists: &[u64], output: &mut [u8]) 
 
 // The call on the file, the three lists and the output.
 fn renumber_by(head: Head, file: &[u8], lists: &[u64], output: &mut [u8]) -> Reply {
+    let begin = 0;
     let end = lists.len();
-    let old = end_of(0, head.reference, end);
+    let old = end_of(begin, head.reference, end);
     let new = end_of(old, head.index, end);
     renumber(
         head,
         file,
-        &lists[..old],
+        &lists[begin..old],
         &lists[old..new],
         &lists[new..],
         output,
