@@ -452,6 +452,14 @@ static void on_files(unsigned which)
         fascjoldi_summary_place_in(thrown() >> below(64), below(300));
         given();
         break;
+    case 17:
+        name = "file_row_from";
+        file = some_file(&length), keep();
+        fascjoldi_body_first(file, fascjoldi_front_length(file, length) < length ? fascjoldi_front_length(file, length) : length, &number,
+            &start, &body);
+        a = below(4) == 0 ? below(7) : number, b = below(4) == 0 ? (size_t)thrown() >> below(64) : start;
+        answered(fascjoldi_file_row_from(file, length, a, b, below(4) == 0 ? (size_t)thrown() : below(1100), &value, &words, &place), true);
+        break;
     default:
         name = "listing";
         uint64_t *machine = lent(8, 8);
@@ -468,7 +476,7 @@ static void on_files(unsigned which)
         used = 0, calls += 6, done += 6;
     }
 }
-enum { ON_FILES_MOST = 18 };
+enum { ON_FILES_MOST = 19 };
 
 int main(int count, char **words)
 {

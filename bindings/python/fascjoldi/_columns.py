@@ -138,7 +138,6 @@ class Column:
         self._rows: int = free.front_row_count(self._base, self._front)
         self._edition: int = free.front_edition(self._base, self._front)
         self._bodies = tuple(self._each_body())
-        self._last: tuple[int, "array[int]"] = (-1, _numbers(0))
 
     @classmethod
     def open(cls, path: Path) -> "Column":
@@ -200,14 +199,6 @@ class Column:
         self._ask(answer, place)
         return numbers
 
-    def _block_kept(self, number: int) -> "array[int]":
-        """The same, kept until another one is asked for. What is kept is never written again."""
-        last, numbers = self._last
-        if last != number:
-            numbers = self._lay_down(number)
-            self._last = (number, numbers)
-        return numbers
-
     def in_blocks(self) -> "Iterator[array[int]]":
         """The numbers of each block, one block after another."""
         return (self._lay_down(number) for number in range(len(self._bodies)))
@@ -231,8 +222,15 @@ class Column:
         at = asked + self._rows if asked < 0 else asked
         if not 0 <= at < self._rows:
             raise of_row(asked, self._rows, self._name)
-        block, place = divmod(at, BLOCK)
-        return self._block_kept(block)[place]
+        return self._row(at)
+
+    def _row(self, row: int) -> int:
+        """The number at a row, out of its body: the file was checked, and no block is laid down."""
+        block = row // BLOCK
+        value, words, place = ctypes.c_uint64(), ctypes.c_uint64(), ctypes.c_size_t()
+        lent = [ctypes.byref(one) for one in (value, words, place)]
+        self._ask(free.file_row_from(self._base, len(self._data), block, self._bodies[block][0], row, *lent), place)
+        return value.value
 
     def _slice(self, rows: range) -> "array[int]":
         if not rows:

@@ -92,6 +92,7 @@ FUNCTIONS = {
     "fascjoldi_body_check_range": "zPzzPzP",
     "fascjoldi_body_first": "vPzPPP",
     "fascjoldi_body_next": "vPzPPP",
+    "fascjoldi_file_row_from": "zPzzzzPPP",
     "fascjoldi_search_opens": "?PzzQQ",
     "fascjoldi_search_rows": "zPzzQQPzPPP",
     "fascjoldi_block_differing": "zPzPzPzPP",
