@@ -77,6 +77,7 @@ FUNCTIONS = {
     "fascjoldi_file_row_at": "zPzzPPP",
     "fascjoldi_file_write": "zPzPzPP",
     "fascjoldi_file_rewrite": "zPzPzPP",
+    "fascjoldi_file_renumber": "zPzPzPzPzPzPPP",
     "fascjoldi_file_search": "zPzQQPzPPP",
     "fascjoldi_front_length": "zPz",
     "fascjoldi_front_check": "zPzzP",
@@ -177,6 +178,24 @@ MEANINGS = {
     },
     17: {
         "a file": "a block is not as our writer would write it; the lowest such block",
+    },
+    18: {
+        "a renumbering": "the three lists are not of one length",
+    },
+    19: {
+        "a renumbering": "an old number is not above the one before it; the lowest such place",
+    },
+    20: {
+        "a renumbering": (
+            "a place of the order says no pair, or one that does not come behind the pair before it; the lowest "
+            "such place"
+        ),
+    },
+    21: {
+        "a renumbering": "a new number stands at another place too; the lowest such place",
+    },
+    22: {
+        "a renumbering": "a number that is not listed stands among the new numbers; the lowest row that has one",
     },
 }
 
