@@ -452,6 +452,34 @@ static void on_files(unsigned which)
         fascjoldi_summary_place_in(thrown() >> below(64), below(300));
         given();
         break;
+    case 17:
+        name = "file_row_from";
+        file = some_file(&length), keep();
+        fascjoldi_body_first(file, fascjoldi_front_length(file, length) < length ? fascjoldi_front_length(file, length) : length, &number,
+            &start, &body);
+        a = below(4) == 0 ? below(7) : number, b = below(4) == 0 ? (size_t)thrown() >> below(64) : start;
+        answered(fascjoldi_file_row_from(file, length, a, b, below(4) == 0 ? (size_t)thrown() : below(1100), &value, &words, &place), true);
+        break;
+    case 18:
+        name = "file_renumber";
+        a = below(40), b = some_length(a, 60), so_long = some_length(a, 60);
+        out = below(2) == 0 ? 4 + 5 * 8224 : below(3000);
+        file = some_file(&length);
+        uint64_t *olds = lent(a, 8), *news = lent(b, 8), *order = lent(so_long, 8);
+        output = lent(out, 1);
+        /* Mostly lists that rise, so that the call looks at the rows. */
+        for (size_t i = 0; i < a && below(100) != 0; i++)
+            olds[i] = i == 0 ? below(50) : olds[i - 1] + 1 + below(9);
+        for (size_t i = 0; i < b && below(100) != 0; i++)
+            news[i] = ((uint64_t)1 << 40) + 3 * i + below(2);
+        for (size_t i = 0; i < so_long && below(100) != 0; i++)
+            order[i] = i;
+        keep();
+        number = a == b && b == so_long;
+        answer = fascjoldi_file_renumber(
+            file, length, olds, a, news, b, order, so_long, output, out, &found, &opened, &place);
+        answered(answer, number == 1 && found <= out);
+        break;
     default:
         name = "listing";
         uint64_t *machine = lent(8, 8);
@@ -468,7 +496,7 @@ static void on_files(unsigned which)
         used = 0, calls += 6, done += 6;
     }
 }
-enum { ON_FILES_MOST = 18 };
+enum { ON_FILES_MOST = 20 };
 
 int main(int count, char **words)
 {

@@ -6,8 +6,8 @@ import os
 from array import array
 from typing import Any, Iterable, Iterator, Mapping, NamedTuple, Union, overload
 
-from ._library import Lent, free, has, held, size, within
-from ._refused import Changed, Refused, of_file, of_row
+from ._library import Lent, free, held, size, within
+from ._refused import Changed, Refused, of_file, of_renumbering, of_row
 from ._store import Store
 
 Path = Union[str, "os.PathLike[str]"]
@@ -15,7 +15,7 @@ Pairs = Union[Mapping[int, int], Iterable[tuple[int, int]]]
 BLOCK = 1024  # the numbers of a block
 LONGEST_FILE = 2_625_540  # that is readable: edition 1, 256 run blocks of 1,024 values
 KINDS = ("packed", "frame", "differences", "runs")
-_DONE, _EDITION, _FOREIGN = 0, 9, 17
+_DONE, _UNRISING, _TWICE, _TAKEN = 0, 19, 21, 22
 _WORST_BLOCK = 8224  # the bytes that our writer takes at most for a block
 
 
@@ -138,7 +138,6 @@ class Column:
         self._rows: int = free.front_row_count(self._base, self._front)
         self._edition: int = free.front_edition(self._base, self._front)
         self._bodies = tuple(self._each_body())
-        self._last: tuple[int, "array[int]"] = (-1, _numbers(0))
 
     @classmethod
     def open(cls, path: Path) -> "Column":
@@ -200,14 +199,6 @@ class Column:
         self._ask(answer, place)
         return numbers
 
-    def _block_kept(self, number: int) -> "array[int]":
-        """The same, kept until another one is asked for. What is kept is never written again."""
-        last, numbers = self._last
-        if last != number:
-            numbers = self._lay_down(number)
-            self._last = (number, numbers)
-        return numbers
-
     def in_blocks(self) -> "Iterator[array[int]]":
         """The numbers of each block, one block after another."""
         return (self._lay_down(number) for number in range(len(self._bodies)))
@@ -231,8 +222,15 @@ class Column:
         at = asked + self._rows if asked < 0 else asked
         if not 0 <= at < self._rows:
             raise of_row(asked, self._rows, self._name)
-        block, place = divmod(at, BLOCK)
-        return self._block_kept(block)[place]
+        return self._row(at)
+
+    def _row(self, row: int) -> int:
+        """The number at a row, out of its body: the file was checked, and no block is laid down."""
+        block = row // BLOCK
+        value, words, place = ctypes.c_uint64(), ctypes.c_uint64(), ctypes.c_size_t()
+        lent = [ctypes.byref(one) for one in (value, words, place)]
+        self._ask(free.file_row_from(self._base, len(self._data), block, self._bodies[block][0], row, *lent), place)
+        return value.value
 
     def _slice(self, rows: range) -> "array[int]":
         if not rows:
@@ -318,7 +316,7 @@ class Column:
         >>> column.renumbered({1: 3})
         Traceback (most recent call last):
             ...
-        fascjoldi.Refused: refused 22 2: ...
+        fascjoldi.Refused: refused 22 2: a number that is not listed stands among the new numbers; the lowest row that has one (row 2 has 3)
         """
         return self._renumbered(*_lists_of(pairs))
 
@@ -331,8 +329,18 @@ class Column:
             lent = [ctypes.byref(one) for one in (length, changed, place)]
             room = ctypes.addressof(output), len(output)
             answer = held.file_renumber(self._base, len(self._data), *lists, *room, *lent)
-        self._ask(answer, place)
+        if answer != _DONE:
+            told = self._of_pair(answer, place.value, old, new)
+            raise of_renumbering(answer, place.value, told, self._name)
         return output.raw[: length.value], changed.value
+
+    def _of_pair(self, number: int, place: int, old: Any, new: Any) -> str:
+        """The number that a refusal of a renumbering is about, in words."""
+        if number == _UNRISING:
+            return f"{old[place]} behind {old[place - 1]}"
+        if number == _TWICE:
+            return f"{new[place]}"
+        return f"row {place} has {self._row(place)}" if number == _TAKEN else ""
 
     def renumber(self, path: Path, pairs: Pairs, *, replace: bool = False) -> Renumbered:
         """Writes the renumbered rows to a file, with the care of `write`."""
@@ -401,8 +409,3 @@ def changes(left: "Column | Path", right: "Column | Path") -> list[Change]:
             raise of_file(number, place.value, None)
         found.extend(Change(block * BLOCK + at, old[at], new[at]) for at in places[: count.value])
     return found
-
-
-if not has("fascjoldi_file_renumber"):
-    # The library is older than this call.
-    del Column.renumbered, Column._renumbered, Column.renumber

@@ -51,6 +51,11 @@ def of_file(number: int, place: int, name: str | None) -> Refused:
     return Refused(number, place, before if behind is None else f"{before}{place}{behind}", name)
 
 
+def of_renumbering(number: int, place: int, told: str, name: str | None) -> Refused:
+    """With the number that it is about, where there is one: the program names the line of its input there."""
+    return Refused(number, place, f"{meaning(number, 'a renumbering')}{told and f' ({told})'}", name)
+
+
 def of_row(row: int, rows: int, name: str | None) -> NoRow:
     front, none, last = NO_ROW
     return NoRow(12, 0, f"{front}{row}{none if rows == 0 else f'{last}{rows - 1}'}", name)

@@ -1,16 +1,11 @@
-"""The renumbering, against its model and, where the program has the verb, against the program."""
-import unittest
-
+"""The renumbering, against its model and against the program."""
 from fascjoldi import Column, Refused, changes, encode
-from fascjoldi._library import has
 
 from .common import Dice, InFolder, good_files, tool
 
 from cases import mixed, samples  # common.py says where they are
 from cases.stream import RENUMBER, lists_in
 from models import files, renumber, rewrite
-
-HAS = has("fascjoldi_file_renumber")
 
 
 def questions():
@@ -19,7 +14,6 @@ def questions():
     yield from mixed.renumbers.renumbers(7, 150)
 
 
-@unittest.skipUnless(HAS, "the library has no renumbering yet")
 class Renumbering(InFolder):
     def test_as_the_model(self):
         """Number, place, bytes and K of every list, good and bad, as the model has them."""
@@ -68,14 +62,22 @@ class Renumbering(InFolder):
         self.assertFalse((self.folder / "c.col").exists())
         said = tool("changes", path, new)[1]
         self.assertEqual(len(said.splitlines()), 257)
+        theirs = self.folder / "theirs.col"
+        _, said, complaint = tool("renumber", path, theirs, given=b"1 9\n")
+        self.assertEqual((said, complaint), ("renumbered 256 of 1024 rows, 0 of 1 pairs have no row\n", ""))
+        self.same(theirs.read_bytes(), new.read_bytes())
 
     def test_wrong_pairs(self):
         column = Column(encode([1, 2] * 512))
-        for number, pairs in ((19, [(1, 5), (1, 6)]), (21, [(1, 5), (2, 5)]), (22, [(1, 2)])):
+        for number, place, pairs, about in (
+            (19, 1, [(1, 5), (1, 6)], "(1 behind 1)"),
+            (21, 0, [(1, 5), (2, 5)], "(5)"),
+            (22, 1, [(1, 2)], "(row 1 has 2)"),
+        ):
             with self.assertRaises(Refused) as told:
                 column.renumbered(pairs)
-            self.assertEqual(told.exception.number, number)
-            self.assertTrue(told.exception.sentence)
+            self.assertEqual((told.exception.number, told.exception.place), (number, place))
+            self.assertTrue(told.exception.sentence.endswith(about), told.exception.sentence)
         for wrong, pairs in ((OverflowError, [(-1, 5)]), (OverflowError, [(1, 2**64)]), (TypeError, [("1", 5)]), (TypeError, 5)):
             self.assertRaises(wrong, column.renumbered, pairs)
         self.assertEqual(column.renumbered([])[1], 0)
