@@ -32,20 +32,23 @@ use Rattle.contents.proofs.Answers.{passed, stopped, none-left, says-answer}
 use Rattle.candidates.specs.declared.Laid.the-variants.{As, Refused}
 use Rattle.candidates.specs.declared.Measured.{Measured}
 use Rattle.candidates.specs.declared.Measures.{Measures}
-use Rattle.candidates.specs.Calls.{entryFor, layTests, laidOf, layLeaves, answerOf, measuredOf, isReady, byTests, plainLeaves, frameLeaves, stepsLeaves, byLeaves}
+use Rattle.candidates.specs.Calls.{entryFor, layTests, laidOf, layLeaves, answerOf, measuredOf, entryWith, isReady, byTests, plainLeaves, frameLeaves, stepsLeaves, byLeaves}
 use Rattle.candidates.specs.Candidates.{baseOf, differences, chosen, bodyFor}
 use Rattle.candidates.specs.Measures.{measuresOf, widthsBy, entryBy, shorterPart, plainBy, frameBy, stepsBy, wordsBy}
 use Rattle.bodies.specs.Ranges.{trueRange}
 use Rattle.candidates.specs.Widths.{bits, widthOf}
-use Rattle.candidates.proofs.Choice.{length-base, body-sized, words-chosen, sized-by, front-over}
+use Rattle.candidates.proofs.Choice.{length-base, body-sized, entry-chosen, words-chosen, sized-by, front-over}
 use Rattle.candidates.proofs.Widths.{width-most, frame-highest, minus-low}
+
+pub lowest-highest : (values : List ℕ) → length values ≡ 1024 → lowestOf values ≤ highestOf values
+lowest-highest values long = omega (arith, lowest-bound values 0 (omega arith), highest-bound values 0 (omega arith))
 
 -- By the true range of a block and the true width of its differences, what is measured is what is measured of it.
 pub widths-measured : (values : List ℕ) → length values ≡ 1024 → Elements t64 values
     → widthsBy (trueRange values) (widthOf (differences values)) ≡ measuresOf values
 unfolding measuresOf widthsBy widthOf
 widths-measured values long fits =
-    let low : lowestOf values ≤ highestOf values = omega (arith, lowest-bound values 0 (omega arith), highest-bound values 0 (omega arith)) in
+    let low : lowestOf values ≤ highestOf values = lowest-highest values long in
     let high : highestOf values < 2 ^ 64 = highest-below (2 ^ 64) values (pow-pos 64) (λ i _. fits i) in
     let wraps : minus t64 (highestOf values) (lowestOf values) ≡ highestOf values - lowestOf values = minus-low (highestOf values) (lowestOf values) low high in
     λ j. record {
@@ -137,6 +140,16 @@ module _ (values output : List ℕ) where
         let room : length (bodyFor values) ≤ length output = omega (arith, body-sized values) in
         laid-by Done (passed _ _ (eq-eqb (length values) 1024 long) ∙ passed _ _ (le-leb (length (bodyFor values)) (length output) room) ∙ none-left)
 
+-- The entry by a range and a width, by whether that is one.
+module _ (range : Range) (steps : ℕ) where
+  pub with-there : steps ≤ 64 → entryWith range steps ≡ entryBy (widthsBy range steps)
+  unfolding entryWith
+  with-there h = ap (λ b. pick b (entryBy (widthsBy range steps)) noEntry) (le-leb steps 64 h)
+
+  pub with-missing : 64 < steps → entryWith range steps ≡ noEntry
+  unfolding entryWith
+  with-missing h = ap (λ b. pick b (entryBy (widthsBy range steps)) noEntry) (lt-leb steps 64 h)
+
 -- ---- laid down by what was measured
 
 -- Where the tests give an answer, that decides what is left.
@@ -201,6 +214,10 @@ module _ (range : Range) (steps : ℕ) (values : List ℕ) where
 module _ (values : List ℕ) (long : length values ≡ 1024) (fits : Elements t64 values) where
   abbrev wide : ℕ
   wide = widthOf (differences values)
+
+  pub true-entry : entryWith (trueRange values) wide ≡ chosen values .entry
+  true-entry =
+      with-there (trueRange values) wide (width-most (differences values)) ∙ ap entryBy (widths-measured values long fits) ∙ entry-chosen values
 
   pub true-words : wordsBy (widthsBy (trueRange values) wide) values ≡ chosen values .words
   true-words = ap (λ m. wordsBy m values) (widths-measured values long fits) ∙ words-chosen values

@@ -21,7 +21,7 @@ use Rattle.candidates.specs.declared.Laid.the-variants.{As, Refused}
 use Rattle.candidates.specs.declared.Measured.{Measured}
 use Rattle.little.specs.Little.{allBytes}
 use Rattle.candidates.specs.Candidates.{chosen, bodyFor, differences}
-use Rattle.candidates.specs.Measures.{widthsBy, wordsBy, plainBy, frameBy, stepsBy}
+use Rattle.candidates.specs.Measures.{widthsBy, entryBy, wordsBy, plainBy, frameBy, stepsBy}
 use Rattle.candidates.specs.Widths.{widthOf}
 
 -- This is the entry of a block of 1,024 numbers; another list has no entry.
@@ -64,6 +64,10 @@ unfoldable pub measuredOf : (values : List ℕ) → Measured
 measuredOf values =
     pick (long 1024 values) (record { entry = chosen values .entry; range = trueRange values; steps = widthOf (differences values) })
     (record { entry = noEntry; range = anyRange; steps = 0 })
+
+-- By a range and a width of the differences this is the entry that is chosen; no width is above 64.
+unfoldable pub entryWith : (range : Range) (steps : ℕ) → Entry
+entryWith range steps = pick (leb steps 64) (entryBy (widthsBy range steps)) noEntry
 
 -- The candidates are laid down in three rooms, for 1,024 words, 1,024 words and 1,040 words, and no width is above 64.
 abbrev pub isReady : (steps : ℕ) (plain frame rest : List ℕ) → Bool

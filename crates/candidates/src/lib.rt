@@ -32,7 +32,7 @@ ghost use Rattle.packing.specs.Packed.{packOf};
 ghost use Rattle.deltas.specs.Deltas.{forPackOf};
 ghost use Rattle.little.specs.Little.{writeLeaves};
 ghost use Rattle.contents.specs.Answers.{fileAnswer};
-ghost use Rattle.candidates.specs.Calls.{entryFor, laidOf, layLeaves, answerOf, entryLaid, rangeLaid, measuredOf, isReady, byTests, plainLeaves, frameLeaves, stepsLeaves, byLeaves};
+ghost use Rattle.candidates.specs.Calls.{entryFor, laidOf, layLeaves, answerOf, entryLaid, rangeLaid, measuredOf, entryWith, isReady, byTests, plainLeaves, frameLeaves, stepsLeaves, byLeaves};
 ghost use Rattle.candidates.specs.Candidates.{packedEntry, baseOf, differences as differencesOf, chosen};
 ghost use Rattle.candidates.specs.Measures.{widthsBy, entryBy, shorterEntry, shorterPart, wordsBy, plainBy, frameBy, stepsBy};
 ghost use Rattle.candidates.specs.Widths.{bits};
@@ -149,6 +149,18 @@ pub fn measure(values: &[u64]) -> Measured
         range: range,
         steps: steps,
     }
+}
+
+// The entry of the candidate that is chosen by a range and a width of the differences; one of no kind where the width is
+// above 64.
+pub fn entry_with(range: Range, steps: usize) -> Entry
+    ensures { λ r. ⌜ r ≡ entryWith range steps ⌝ }
+{
+    if T < steps {
+        return no_entry();
+    }
+    let m = widths_by(range, steps);
+    entry_by(m)
 }
 
 // Lays the three candidates of a block down by its range and the width of its differences, each in a room of its own,
