@@ -30,8 +30,9 @@ use Rattle.contents.proofs.Bytes.{Fits}
 use Rattle.contents.proofs.Laid.{laid-plain}
 use Rattle.bodies.specs.Bodies.{hasGoodRuns}
 use Rattle.bodies.proofs.Bodies.{other-runs}
-use Rattle.candidates.specs.Candidates.{Candidate, plainAt, frameAt, stepsAt, plain, frame, steps, baseOf, differences, framed, shorter, chosen, bodyFor}
-use Rattle.candidates.specs.InnerMeasures.{measuresOf, shorterEntry, entryBy, shorterPart, wordsBy}
+use Rattle.candidates.specs.declared.Measures.{Measures}
+use Rattle.candidates.specs.Candidates.{Candidate, packedEntry, plainAt, frameAt, stepsAt, plain, frame, steps, baseOf, differences, framed, shorter, chosen, bodyFor}
+use Rattle.candidates.specs.Measures.{measuresOf, shorterEntry, entryBy, shorterPart, plainBy, frameBy, stepsBy, wordsBy}
 use Rattle.candidates.specs.Restored.{candidateAt, packs, candidate}
 use Rattle.candidates.specs.Widths.{widthOf}
 use Rattle.candidates.proofs.Widths.{width-most}
@@ -119,12 +120,48 @@ module _ (values : List ℕ) where
       (shorter-entry (shorter (plain values) (frame values)) (steps values)
       ∙ ap (λ e. shorterEntry e (steps values .entry)) (shorter-entry (plain values) (frame values)))
 
-  pub words-chosen : wordsBy (measuresOf values) values (differences values) ≡ chosen values .words
+  pub words-chosen : wordsBy (measuresOf values) values ≡ chosen values .words
   unfolding chosen wordsBy measuresOf plainAt frameAt stepsAt
   words-chosen =
       sym
       (shorter-words (shorter (plain values) (frame values)) (steps values) first-sized (steps-sized _ values)
       ∙ ap (λ x. shorterPart x (steps values .words)) (shorter-words (plain values) (frame values) (plain-sized _ values) (frame-sized _ values)))
+
+-- By any measures the entry that is chosen says how long the body is that is chosen.
+pub sized-by : (m : Measures) (values : List ℕ) → entryBy m .length ≡ 8 * length (wordsBy m values)
+unfolding entryBy wordsBy
+sized-by m values =
+    ap (λ e. e .length) (sym entries) ∙ all-sized ∙ ap (λ x. 8 * length x) words
+  where
+    p : Candidate
+    p = record { entry = packedEntry 0 (m .plain) 0 0; words = plainBy m values }
+
+    f : Candidate
+    f = record { entry = packedEntry 1 (m .frame) 0 (m .low); words = frameBy m values }
+
+    s : Candidate
+    s = record { entry = packedEntry 2 (m .steps) 128 0; words = stepsBy m values }
+
+    p-sized : Sized p
+    p-sized = omega (arith, length-pack t64 (m .plain) values)
+
+    f-sized : Sized f
+    f-sized = omega (arith, length-for-pack t64 (m .frame) values (m .low))
+
+    s-sized : Sized s
+    s-sized =
+        omega (arith, length-append (baseOf values) (packOf t64 (m .steps) (differences values)), length-base values, length-pack t64 (m .steps) (differences values))
+
+    all-sized : Sized (shorter (shorter p f) s)
+    all-sized = shorter-sized (shorter p f) s (shorter-sized p f p-sized f-sized) s-sized
+
+    entries : shorter (shorter p f) s .entry ≡ shorterEntry (shorterEntry (p .entry) (f .entry)) (s .entry)
+    entries = shorter-entry (shorter p f) s ∙ ap (λ e. shorterEntry e (s .entry)) (shorter-entry p f)
+
+    words : shorter (shorter p f) s .words ≡ shorterPart (shorterPart (p .words) (f .words)) (s .words)
+    words =
+        shorter-words (shorter p f) s (shorter-sized p f p-sized f-sized) s-sized
+        ∙ ap (λ x. shorterPart x (s .words)) (shorter-words p f p-sized f-sized)
 
 -- The chosen candidate is one of the three: kind 0 where no other is shorter, kind 1 where it is shorter than kind 0
 -- and kind 2 is not shorter still, kind 2 where it is shorter than both.

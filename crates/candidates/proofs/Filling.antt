@@ -6,11 +6,11 @@ use mathlib.Core.Path.{_≡_, sym, ap, ap₂, _∙_}
 use Prim.Native.Nat.{ℕ, _+_, _-_, _*_, _≤_}
 use native.Mathlib.Nat.{zero-add}
 use native.Mathlib.Omega.{arith}
-use lib.ListN.{length, getD, take, drop, length-drop}
+use lib.ListN.{length, getD, take, drop}
 use lib.Seq.{length-take-le, drop-drop}
-use borrow.Rule.Slice.PartMut.{midOf, putMid}
+use borrow.Rule.Slice.PartMut.{putMid}
 use Rattle.lists.specs.Tab.{over}
-use Rattle.lists.proofs.Overs.{over-append, length-over}
+use Rattle.lists.proofs.Overs.{over-append}
 use Rattle.lists.proofs.Tabs.{tab-ext}
 use Rattle.places.specs.Sizes.{t64}
 use Rattle.places.specs.Places.{place, order}
@@ -25,7 +25,7 @@ use Rattle.deltas.specs.Calls.{forPackLeaves}
 use Rattle.deltas.specs.Deltas.{forPackOf}
 use Rattle.deltas.proofs.Answers.{for-pack-leaves}
 use Rattle.deltas.proofs.Lanes.{length-for-pack}
-use Rattle.candidates.specs.Candidates.{baseOf}
+use Rattle.candidates.specs.Candidates.{baseOf, differences}
 use Rattle.candidates.proofs.Choice.{length-base}
 
 -- A list at the front of another is written over it.
@@ -61,18 +61,15 @@ unfolding baseOf
 base-loaded values long =
     sym (load-room t64 values (omega arith)) ∙ tab-ext 16 (λ l. getD values l 0) (λ l. getD values (place 0 l) 0) 0 (λ l _. base-first values l)
 
-module _ (w : ℕ) (values differences words : List ℕ) (h : w ≤ 64) (lv : length values ≡ 1024) (ld : length differences ≡ 1024)
-    (room : 16 + 16 * w ≤ length words) where
-  pub filled-steps :
-      putMid 16 (16 + 16 * w - 16) (storeOf words (loadOf t64 values))
-      (packLeaves t64 w differences (midOf 16 (16 + 16 * w - 16) (storeOf words (loadOf t64 values))))
-      ≡ over 0 (baseOf values ++ packOf t64 w differences) words
+module _ (w : ℕ) (values words : List ℕ) (lv : length values ≡ 1024) (room : 16 + 16 * w ≤ length words) where
+  -- The base is stored, and the packed differences take the place of what is behind it.
+  pub filled-steps : putMid 16 (16 + 16 * w - 16) (storeOf words (loadOf t64 values)) (packOf t64 w (differences values))
+      ≡ over 0 (baseOf values ++ packOf t64 w (differences values)) words
   filled-steps =
-      ap₂ (λ s k. putMid 16 k s (packLeaves t64 w differences (midOf 16 k s))) stored-base part
-      ∙ ap (λ x. putMid 16 (16 * w) s x) (pack-leaves t64 w differences (midOf 16 (16 * w) s) h ld mid-long)
-      ∙ mid-lent (packOf t64 w differences) s 16 (16 * w) (length-pack t64 w differences)
-      ∙ ap (λ k. over k (packOf t64 w differences) s) (sym (zero-add (length (baseOf values)) ∙ length-base values))
-      ∙ over-append 0 (baseOf values) (packOf t64 w differences) words (omega (arith, length-base values, length-pack t64 w differences))
+      ap₂ (λ s k. putMid 16 k s (packOf t64 w (differences values))) stored-base part
+      ∙ mid-lent (packOf t64 w (differences values)) s 16 (16 * w) (length-pack t64 w (differences values))
+      ∙ ap (λ k. over k (packOf t64 w (differences values)) s) (sym (zero-add (length (baseOf values)) ∙ length-base values))
+      ∙ over-append 0 (baseOf values) (packOf t64 w (differences values)) words (omega (arith, length-base values, length-pack t64 w (differences values)))
     where
       s : List ℕ
       s = over 0 (baseOf values) words
@@ -83,6 +80,3 @@ module _ (w : ℕ) (values differences words : List ℕ) (h : w ≤ 64) (lv : le
 
       part : 16 + 16 * w - 16 ≡ 16 * w
       part = omega arith
-
-      mid-long : length (midOf 16 (16 * w) s) ≡ 16 * w
-      mid-long = length-take-le (16 * w) (drop 16 s) (omega (arith, length-drop 16 s, length-over 0 (baseOf values) words (omega (arith, length-base values))))

@@ -2,4 +2,5 @@ pub mod Calls
 pub mod Choice
 pub mod Filling
 pub mod Least
+pub mod Steps
 pub mod Widths

@@ -78,9 +78,14 @@ width-fits l fits w = (
     highest-element : (l : List ℕ) → Elements t64 l → highestOf l < 2 ^ 64
     highest-element l fits = highest-below (2 ^ 64) l (pow-pos 64) (λ i _. fits i)
 
+-- A number less one that is not above it does not wrap.
+pub minus-low : (a b : ℕ) → b ≤ a → a < 2 ^ 64 → minus t64 a b ≡ a - b
+unfolding plus
+minus-low a b h fits = sym (minus-only t64 a b (a - b) (omega arith) (omega arith) (ap (λ n. n % 2 ^ 64) (omega arith) ∙ mod-eq-of-lt fits))
+
 -- The highest number of the frame over the lowest one is the highest less the lowest.
 pub frame-highest : (v : List ℕ) → length v ≡ 1024 → Elements t64 v → highestOf (frameOf t64 v (lowestOf v)) ≡ highestOf v - lowestOf v
-unfolding frameOf plus
+unfolding frameOf
 frame-highest v long fits =
     let low : ℕ = lowestOf v in
     let high : ℕ = highestOf v in
@@ -93,10 +98,6 @@ frame-highest v long fits =
     let top = highest-stands v (omega arith) in
     let least : high - low ≤ highestOf f = omega (arith, at (top .0) (omega (arith, top .1)), highest-bound f (top .0) (omega (arith, top .1)), top .2) in
     omega arith
-  where
-    minus-low : (a b : ℕ) → b ≤ a → a < 2 ^ 64 → minus t64 a b ≡ a - b
-    minus-low a b h fits =
-        sym (minus-only t64 a b (a - b) (omega arith) (omega arith) (ap (λ n. n % 2 ^ 64) (omega arith) ∙ mod-eq-of-lt fits))
 
 -- What the loop that joins the bits of all numbers keeps: what it has fits a width exactly when the numbers passed do.
 pub record Joined (xs : List ℕ) (any i : ℕ) : Type 0 where

@@ -1,11 +1,12 @@
 -- What the calls on one block answer and leave (document 02, Items 3 and 9): the entry that the writer gives a block,
--- its smallest and largest number, and the body written.
+-- its smallest and largest number, and the body written; in one call, or measured first and laid down later.
 -- Assumes nothing.
+use mathlib.Core.Bool.{Bool}
 use mathlib.Core.List.{List, [], _∷_}
-use Prim.Native.Nat.{ℕ}
+use Prim.Native.Nat.{ℕ, _*_}
 use lib.Dec.{leb}
 use lib.ListN.{length}
-use Rattle.lists.specs.Pick.{pick}
+use Rattle.lists.specs.Pick.{pick, both}
 use Rattle.lists.specs.Tab.{over}
 use Rattle.lists.specs.Tests.{long}
 use Rattle.contents.specs.declared.Entry.{Entry}
@@ -17,7 +18,11 @@ use Rattle.contents.specs.Contents.{noEntry, anyRange}
 use Rattle.bodies.specs.Ranges.{trueRange}
 use Rattle.candidates.specs.declared.Laid.{Laid}
 use Rattle.candidates.specs.declared.Laid.the-variants.{As, Refused}
-use Rattle.candidates.specs.Candidates.{chosen, bodyFor}
+use Rattle.candidates.specs.declared.Measured.{Measured}
+use Rattle.little.specs.Little.{allBytes}
+use Rattle.candidates.specs.Candidates.{chosen, bodyFor, differences}
+use Rattle.candidates.specs.Measures.{widthsBy, entryBy, wordsBy, plainBy, frameBy, stepsBy}
+use Rattle.candidates.specs.Widths.{widthOf}
 
 -- This is the entry of a block of 1,024 numbers; another list has no entry.
 unfoldable pub entryFor : (values : List ℕ) → Entry
@@ -50,3 +55,44 @@ entryLaid (Refused a) = noEntry
 abbrev pub rangeLaid : Laid → Range
 rangeLaid (As e r) = r
 rangeLaid (Refused a) = anyRange
+
+-- ---- measured first, and laid down later
+
+-- Of a block of 1,024 numbers this is measured: the entry that the writer gives it, its range, and the width of its
+-- differences. Another list has no entry, and no range either.
+unfoldable pub measuredOf : (values : List ℕ) → Measured
+measuredOf values =
+    pick (long 1024 values) (record { entry = chosen values .entry; range = trueRange values; steps = widthOf (differences values) })
+    (record { entry = noEntry; range = anyRange; steps = 0 })
+
+-- By a range and a width of the differences this is the entry that is chosen; no width is above 64.
+unfoldable pub entryWith : (range : Range) (steps : ℕ) → Entry
+entryWith range steps = pick (leb steps 64) (entryBy (widthsBy range steps)) noEntry
+
+-- The candidates are laid down in three rooms, for 1,024 words, 1,024 words and 1,040 words, and no width is above 64.
+abbrev pub isReady : (steps : ℕ) (plain frame rest : List ℕ) → Bool
+isReady steps plain frame rest = both (both (long 1024 plain) (long 1024 frame)) (both (long 1040 rest) (leb steps 64))
+
+-- Laying a block down by a range and a width of its differences takes 1,024 numbers, the rooms, and an output with room
+-- for the shortest body.
+abbrev pub byTests : (range : Range) (steps : ℕ) (values plain frame rest output : List ℕ) → List FileTest
+byTests range steps values plain frame rest output =
+    (long 1024 values, Block)
+    ∷ (isReady steps plain frame rest, Room)
+    ∷ (leb (8 * length (wordsBy (widthsBy range steps) values)) (length output), Room)
+    ∷ []
+
+-- It leaves each of the three bodies at the front of its room,
+unfoldable pub plainLeaves : (answer : FileAnswer) (range : Range) (steps : ℕ) (values room : List ℕ) → List ℕ
+plainLeaves answer range steps values room = left answer (over 0 (plainBy (widthsBy range steps) values) room) room
+
+unfoldable pub frameLeaves : (answer : FileAnswer) (range : Range) (steps : ℕ) (values room : List ℕ) → List ℕ
+frameLeaves answer range steps values room = left answer (over 0 (frameBy (widthsBy range steps) values) room) room
+
+unfoldable pub stepsLeaves : (answer : FileAnswer) (range : Range) (steps : ℕ) (values room : List ℕ) → List ℕ
+stepsLeaves answer range steps values room = left answer (over 0 (stepsBy (widthsBy range steps) values) room) room
+
+-- and the bytes of the shortest at the front of the output. By the true range of the block and the true width this is
+-- the body that the writer gives it, which is a law.
+unfoldable pub byLeaves : (answer : FileAnswer) (range : Range) (steps : ℕ) (values output : List ℕ) → List ℕ
+byLeaves answer range steps values output = left answer (over 0 (allBytes 8 (wordsBy (widthsBy range steps) values)) output) output

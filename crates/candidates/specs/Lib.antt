@@ -1,5 +1,5 @@
 pub mod Calls
 pub mod Candidates
-pub mod InnerMeasures
+pub mod Measures
 pub mod Restored
 pub mod Widths

@@ -3,19 +3,25 @@
 // at the least width that restores the block. The shortest is chosen, and of two that are equally long the one of the
 // lower kind.
 //
-// A body is a list of words until it is chosen, and the chosen one alone becomes bytes.
+// A body is a list of words until it is chosen, and the chosen one alone becomes bytes. A program that has to know how
+// long all bodies are before it lays one down measures each block first, and keeps of it the range and the width of the
+// differences: with these the block is laid down without being measured again.
+mod differences;
+
 use bodies::range_of;
 use contents::Entry;
 use contents::FileAnswer;
 use contents::Range;
 use contents::any_range;
 use contents::no_entry;
-use deltas::t64::delta;
 use deltas::t64::for_pack;
+use differences::pack_steps;
+use differences::step_bits;
 use little::write_words;
 use packing::t64::pack;
 use rows::t64::load;
 use rows::t64::store;
+use std::num::wrapping_sub_u64;
 ghost use mathlib.Core.Path.{_≡_};
 ghost use mathlib.Core.List.{_++_};
 ghost use Prim.Native.Nat.{_+_, _*_, _≤_};
@@ -25,10 +31,13 @@ ghost use Rattle.places.specs.Sizes.{t64};
 ghost use Rattle.packing.specs.Packed.{packOf};
 ghost use Rattle.deltas.specs.Deltas.{forPackOf};
 ghost use Rattle.little.specs.Little.{writeLeaves};
-ghost use Rattle.candidates.specs.Calls.{entryFor, laidOf, layLeaves, answerOf, entryLaid, rangeLaid};
+ghost use Rattle.contents.specs.Answers.{fileAnswer};
+ghost use Rattle.candidates.specs.Calls.{entryFor, laidOf, layLeaves, answerOf, entryLaid, rangeLaid, measuredOf, entryWith, isReady, byTests, plainLeaves, frameLeaves, stepsLeaves, byLeaves};
 ghost use Rattle.candidates.specs.Candidates.{packedEntry, baseOf, differences as differencesOf, chosen};
-ghost use Rattle.candidates.specs.InnerMeasures.{measuresOf, entryBy, shorterEntry, shorterPart, wordsBy};
-ghost use Rattle.candidates.specs.Widths.{bits, widthOf};
+ghost use Rattle.candidates.specs.Measures.{widthsBy, entryBy, shorterEntry, shorterPart, wordsBy, plainBy, frameBy, stepsBy};
+ghost use Rattle.candidates.specs.Widths.{bits};
+
+const T: usize = 64;
 
 // The entry of a block that was laid down, with its smallest and its largest number, or the refusal.
 pub enum Laid {
@@ -68,10 +77,17 @@ impl Laid {
     }
 }
 
-// What is measured of a block: its lowest and its highest number, and the widths of the three candidates.
+// What is measured of a block: the entry of the candidate that is chosen, the smallest and the largest number, and the
+// width of the differences, which an entry of another kind does not say.
+pub struct Measured {
+    pub entry: Entry,
+    pub range: Range,
+    pub steps: usize,
+}
+
+// The lowest number, which is the frame's reference, and the widths of the three candidates.
 struct Measures {
     low: u64,
-    high: u64,
     plain: usize,
     frame: usize,
     steps: usize,
@@ -81,12 +97,8 @@ struct Measures {
 pub fn entry_for(values: &[u64]) -> Entry
     ensures { λ r. ⌜ r ≡ entryFor (now (values .entry)) ⌝ }
 {
-    if values.len() != 1024 {
-        return no_entry();
-    }
-    let mut differences = [0u64; 1024];
-    let m = measure(values, &mut differences);
-    entry_by(m)
+    let m = measure(values);
+    m.entry
 }
 
 // Lays the body of the chosen candidate down at the front of the output, and gives its entry and the block's range.
@@ -97,52 +109,120 @@ pub fn lay_block(values: &[u64], output: &mut [u8]) -> Laid
     if values.len() != 1024 {
         return Laid::Refused(FileAnswer::Block);
     }
-    let mut differences = [0u64; 1024];
-    let m = measure(values, &mut differences);
+    let m = measure(values);
+    let entry = m.entry;
+    let range = m.range;
+    let mut plain = [0u64; 1024];
+    let mut frame = [0u64; 1024];
+    let mut rest = [0u64; 1040];
+    let answer = lay_by(
+        range,
+        m.steps,
+        values,
+        &mut plain,
+        &mut frame,
+        &mut rest,
+        output,
+    );
+    if answer.number() != 0 {
+        return Laid::Refused(answer);
+    }
+    Laid::As(entry, range)
+}
+
+// Measures a block; where there are not 1,024 numbers the entry is one of no kind.
+pub fn measure(values: &[u64]) -> Measured
+    ensures { λ r. ⌜ r ≡ measuredOf (now (values .entry)) ⌝ }
+{
+    if values.len() != 1024 {
+        return Measured {
+            entry: no_entry(),
+            range: any_range(),
+            steps: 0,
+        };
+    }
+    let range = range_of(values);
+    let steps = width_of(step_bits(values));
+    let m = widths_by(range, steps);
+    Measured {
+        entry: entry_by(m),
+        range: range,
+        steps: steps,
+    }
+}
+
+// The entry of the candidate that is chosen by a range and a width of the differences; one of no kind where the width is
+// above 64.
+pub fn entry_with(range: Range, steps: usize) -> Entry
+    ensures { λ r. ⌜ r ≡ entryWith range steps ⌝ }
+{
+    if T < steps {
+        return no_entry();
+    }
+    let m = widths_by(range, steps);
+    entry_by(m)
+}
+
+// Lays the three candidates of a block down by its range and the width of its differences, each in a room of its own,
+// and writes the bytes of the shortest at the front of the output. A caller with many blocks lends the same rooms for
+// all of them.
+pub fn lay_by(
+    range: Range,
+    steps: usize,
+    values: &[u64],
+    plain: &mut [u64],
+    frame: &mut [u64],
+    rest: &mut [u64],
+    output: &mut [u8],
+) -> FileAnswer
+    ensures { λ r. ⌜
+        r
+        ≡ fileAnswer
+        (byTests range steps (now (values .entry)) (now (plain .entry)) (now (frame .entry)) (now (rest .entry))
+        (now (output .entry)))
+        ⌝ }
+    ensures { λ r. ⌜ now (plain .exit) ≡ plainLeaves r range steps (now (values .entry)) (now (plain .entry)) ⌝ }
+    ensures { λ r. ⌜ now (frame .exit) ≡ frameLeaves r range steps (now (values .entry)) (now (frame .entry)) ⌝ }
+    ensures { λ r. ⌜ now (rest .exit) ≡ stepsLeaves r range steps (now (values .entry)) (now (rest .entry)) ⌝ }
+    ensures { λ r. ⌜ now (output .exit) ≡ byLeaves r range steps (now (values .entry)) (now (output .entry)) ⌝ }
+{
+    if values.len() != 1024 {
+        return FileAnswer::Block;
+    }
+    if !is_ready(steps, plain, frame, rest) {
+        return FileAnswer::Room;
+    }
+    let m = widths_by(range, steps);
     let e = entry_by(m);
     if output.len() < e.length as usize {
-        return Laid::Refused(FileAnswer::Room);
+        return FileAnswer::Room;
     }
-    lay_shortest(m, values, &differences, output);
-    let range = Range {
-        smallest: m.low,
-        largest: m.high,
-    };
-    Laid::As(e, range)
+    fill_plain(m.plain, values, plain);
+    fill_frame(m.frame, values, m.low, frame);
+    fill_steps(m.steps, values, rest);
+    write_shortest(m, plain, frame, rest, output);
+    FileAnswer::Done
 }
 
-// Measures a block, and leaves its differences behind, which are packed later. No number is below the lowest, so the
-// highest number of the frame is the highest less the lowest. Row 0 of lane l stands at place l, so the base is the
-// first sixteen numbers.
-fn measure(values: &[u64], differences: &mut [u64]) -> Measures
-    requires { ⌜ length (now values) ≡ 1024 ⌝ }
-    requires { ⌜ length (now differences) ≡ 1024 ⌝ }
-    ensures { λ r. ⌜ r ≡ measuresOf (now (values .entry)) ⌝ }
-    ensures { λ _. ⌜ now (differences .exit) ≡ differencesOf (now (values .entry)) ⌝ }
+// Whether the rooms are those for the longest bodies, and the width is one.
+fn is_ready(steps: usize, plain: &[u64], frame: &[u64], rest: &[u64]) -> bool
+    ensures { λ r. ⌜ r ≡ isReady steps (now (plain .entry)) (now (frame .entry)) (now (rest .entry)) ⌝ }
 {
-    let range = range_of(values);
-    delta(values, &values[..16], differences);
+    ((plain.len() == 1024) & (frame.len() == 1024)) & ((rest.len() == 1040) & (steps <= T))
+}
+
+// The widths of the candidates. No number is below the smallest, so the highest number of the frame is the largest less
+// the smallest; of any other range it wraps.
+fn widths_by(range: Range, steps: usize) -> Measures
+    ensures { λ r. ⌜ r ≡ widthsBy range steps ⌝ }
+    ensures { λ r. ⌜ (r .plain ≤ 64) × (r .frame ≤ 64) ⌝ }
+{
     Measures {
         low: range.smallest,
-        high: range.largest,
         plain: width_of(range.largest),
-        frame: width_of(range.largest - range.smallest),
-        steps: width_of(any_bits(differences)),
+        frame: width_of(wrapping_sub_u64(range.largest, range.smallest)),
+        steps: steps,
     }
-}
-
-// A number that has each bit which one of the numbers has, so it is as wide as the highest. Of the differences no more
-// is needed than their width, and to go over them so costs an eighth of the search for the highest.
-fn any_bits(numbers: &[u64]) -> u64
-    ensures { λ r. ⌜ bits r ≡ widthOf (now (numbers .entry)) ⌝ }
-{
-    let mut any: u64 = 0;
-    let mut i = 0;
-    while i < numbers.len() {
-        any = any | numbers[i];
-        i += 1;
-    }
-    any
 }
 
 // The least width that holds m.
@@ -188,26 +268,6 @@ fn shorter_entry(a: Entry, b: Entry) -> Entry
     b
 }
 
-// Lays the candidates down, each in an array of its own, and writes the bytes of the shortest. An array has room for
-// the longest body of its kind.
-fn lay_shortest(m: Measures, values: &[u64], differences: &[u64], output: &mut [u8])
-    requires { ⌜ (m .plain ≤ 64) × ((m .frame ≤ 64) × (m .steps ≤ 64)) ⌝ }
-    requires { ⌜ length (now values) ≡ 1024 ⌝ }
-    requires { ⌜ length (now differences) ≡ 1024 ⌝ }
-    ensures { λ _. ⌜
-        now (output .exit)
-        ≡ writeLeaves 8 (wordsBy m (now (values .entry)) (now (differences .entry))) (now (output .entry))
-        ⌝ }
-{
-    let mut plain = [0u64; 1024];
-    let mut frame = [0u64; 1024];
-    let mut steps = [0u64; 1040];
-    fill_plain(m.plain, values, &mut plain);
-    fill_frame(m.frame, values, m.low, &mut frame);
-    fill_steps(m.steps, values, differences, &mut steps);
-    write_shortest(m, &plain, &frame, &steps, output);
-}
-
 // Packs the numbers at the front of the words.
 fn fill_plain(width: usize, values: &[u64], words: &mut [u64])
     requires { ⌜ width ≤ 64 ⌝ }
@@ -235,19 +295,19 @@ fn fill_frame(width: usize, values: &[u64], reference: u64, words: &mut [u64])
 
 // Puts the base at the front of the words, and packs the differences behind it. Row 0 of lane l stands at place l, so
 // the base is the first row.
-fn fill_steps(width: usize, values: &[u64], differences: &[u64], words: &mut [u64])
+fn fill_steps(width: usize, values: &[u64], words: &mut [u64])
     requires { ⌜ width ≤ 64 ⌝ }
     requires { ⌜ length (now values) ≡ 1024 ⌝ }
-    requires { ⌜ length (now differences) ≡ 1024 ⌝ }
     requires { ⌜ 16 + 16 * width ≤ length (now words) ⌝ }
     ensures { λ _. ⌜
         now (words .exit)
-        ≡ over 0 (baseOf (now (values .entry)) ++ packOf t64 width (now (differences .entry))) (now (words .entry))
+        ≡ over 0 (baseOf (now (values .entry)) ++ packOf t64 width (differencesOf (now (values .entry)))) (now
+        (words .entry))
         ⌝ }
 {
     store(words, load(values));
     let end = 16 + 16 * width;
-    pack(width, differences, &mut words[16..end]);
+    pack_steps(width, values, &mut words[16..end]);
 }
 
 // Writes the bytes of the shortest of three candidates, which are the fronts of three lists.

@@ -23,11 +23,11 @@ abbrev pub Bytes : List ℕ → Type 0
 Bytes l = (k : ℕ) → getD l k 0 < 256
 
 -- Two files agree at a place.
-abbrev Agree : (l m : List ℕ) (k : ℕ) → Type 0
+abbrev pub Agree : (l m : List ℕ) (k : ℕ) → Type 0
 Agree l m k = getD l k 0 ≡ getD m k 0
 
 -- Where two numbers are the same, so are their bytes.
-bytes-of : (l m : List ℕ) → Bytes l → Bytes m → (n at : ℕ) → little l at n ≡ little m at n → (k : ℕ) → at ≤ k → k < at + n → Agree l m k
+pub bytes-of : (l m : List ℕ) → Bytes l → Bytes m → (n at : ℕ) → little l at n ≡ little m at n → (k : ℕ) → at ≤ k → k < at + n → Agree l m k
 unfolding little
 bytes-of l m bl bm zero at e k low high = absurd (omega arith)
 bytes-of l m bl bm (suc n) at e k low high =

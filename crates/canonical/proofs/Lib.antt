@@ -1,3 +1,4 @@
+pub mod Back
 pub mod Calls
 pub mod Files
 pub mod OursExactly

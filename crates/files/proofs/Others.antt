@@ -18,8 +18,7 @@ use Rattle.contents.specs.declared.FileAnswer.the-variants.{Done, Runs}
 use Rattle.contents.specs.Answers.{fileAnswer}
 use Rattle.contents.specs.Contents.{count, contentsTests}
 use Rattle.contents.proofs.Answers.{stopped, in-front-done}
-use Rattle.files.specs.Files.{badRuns}
-use Rattle.files.specs.InnerRuns.{runsTests}
+use Rattle.files.specs.Files.{badRuns, runsTests}
 use Rattle.files.proofs.Files.{goodIn, no-bad-runs}
 
 -- This is the lowest number below n, other than b, whose test fails, and n where there is none.

@@ -21,8 +21,7 @@ use Rattle.contents.proofs.Answers.{passed, stopped, none-left, in-front-done, 
 use Rattle.bodies.specs.Ranges.{isRange}
 use Rattle.bodies.proofs.Blocks.{Block, a-block, take-elements, drop-elements}
 use Rattle.bodies.proofs.Ranges.{range-spans}
-use Rattle.files.specs.Files.{bodyOf, blockIn, hasTrueRange, badRuns, badRange, fileTests}
-use Rattle.files.specs.InnerRuns.{runsTests}
+use Rattle.files.specs.Files.{bodyOf, blockIn, hasTrueRange, badRuns, badRange, fileTests, runsTests}
 use Rattle.bodywise.proofs.Told.{edition-read, body-laid}
 use Rattle.files.proofs.Files.{goodIn}
 

@@ -58,6 +58,10 @@ fileTests l =
     ∷ (eqb (badRange l) (count l), Range (badRange l))
     ∷ [])
 
+-- Up to the run indices they are these: in edition 1 there are no more.
+abbrev pub runsTests : (l : List ℕ) → List FileTest
+runsTests l = contentsTests l (length l) ++ ((eqb (badRuns l) (count l), Runs (badRuns l)) ∷ [])
+
 -- A file is taken where none of its tests fails.
 abbrev pub FileTaken : (l : List ℕ) → Type 0
 FileTaken l = fileAnswer (fileTests l) ≡ Done

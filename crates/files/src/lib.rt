@@ -35,9 +35,8 @@ ghost use Rattle.contents.specs.Contents.{edition as editionIn, count as countI
 ghost use Rattle.bodies.specs.Bodies.{blockOf, hasGoodRuns};
 ghost use Rattle.bodies.specs.Ranges.{isRange};
 ghost use Rattle.files.specs.declared.Row.the-variants.{Counted, Uncounted, Refused};
-ghost use Rattle.files.specs.Files.{bodyOf, blockIn, badRange, fileTests, blockOutTests, blockOutLeaves};
+ghost use Rattle.files.specs.Files.{bodyOf, blockIn, badRange, runsTests, fileTests, blockOutTests, blockOutLeaves};
 ghost use Rattle.files.specs.Froms.{bodyFrom, goodFrom, fromTests, fromLeaves, trueFrom};
-ghost use Rattle.files.specs.InnerRuns.{runsTests};
 ghost use Rattle.files.specs.Rows.{answerOf, valueOf, given, rowOf, rowFrom};
 
 // Checks the whole file.
@@ -92,8 +91,9 @@ fn false_range(file: &[u8]) -> usize
     n
 }
 
-// Checks the file up to the run indices. No block has the count for its number, so none is left out.
-fn check_runs(file: &[u8]) -> FileAnswer
+// Checks the file up to the run indices: behind this the ranges are left, for a caller that lays each block down anyhow.
+// No block has the count for its number, so none is left out.
+pub fn check_runs(file: &[u8]) -> FileAnswer
     ensures { λ r. ⌜ r ≡ fileAnswer (runsTests (now (file .entry))) ⌝ }
 {
     check_but(file, count(file))

@@ -3,15 +3,20 @@
 use mathlib.Core.List.{List, [], _∷_}
 use mathlib.Core.Path.{_≡_, refl, sym, ap, _∙_}
 use Prim.Native.Nat.{ℕ, _≤_, _<_}
-use borrow.Author.Tests.{le-leb, lt-leb}
-use lib.Dec.{leb}
+use native.Mathlib.Omega.{arith}
+use borrow.Author.Tests.{le-leb, lt-leb, eq-eqb, ne-eqb}
+use lib.Dec.{eqb, leb}
+use Rattle.lists.specs.Pick.{pick}
 use lib.ListN.{length}
 use Rattle.lists.specs.Tab.{over}
 use Rattle.contents.specs.declared.FileAnswer.{FileAnswer}
-use Rattle.contents.specs.declared.FileAnswer.the-variants.{Done, Room}
+use Rattle.contents.specs.declared.FileAnswer.the-variants.{Done, Range, Room}
 use Rattle.contents.specs.Answers.{fileAnswer, numberOf}
 use Rattle.contents.proofs.Answers.{passed, stopped, none-left, in-front-done, in-front-refused}
-use Rattle.files.specs.Files.{fileTests}
+use Rattle.contents.specs.Contents.{count}
+use Rattle.files.specs.Files.{badRange, runsTests, fileTests}
+use Rattle.files.proofs.Ranges.{file-refused, file-ranges, ranges-done, range-at}
+use Rattle.writer.specs.declared.Written.{Written}
 use Rattle.writer.specs.declared.Written.the-variants.{Length, Refused}
 use Rattle.writer.specs.Writer.{givenBy, leftBy}
 use Rattle.writer.proofs.Outcomes.{given-refused, outcome}
@@ -35,6 +40,19 @@ module _ (l output : List ℕ) where
         sym (outcome a (newFile l) output .refused bad) ∙ by .1,
       )
 
+  -- The tests up to the run indices come first of these,
+  pub refused-runs : (a : FileAnswer) → a ≡ fileAnswer (runsTests l) → (numberOf a ≡ 0 → ⊥) → (Refused a ≡ rewrittenOf l output) × (output ≡ rewriteLeaves l output)
+  refused-runs a e bad = refused-file a (file-refused l (λ d. bad (ap numberOf e ∙ d)) ∙ sym e) bad
+
+  -- and then that of the ranges.
+  module _ (runs : fileAnswer (runsTests l) ≡ Done) where
+    pub ranged-taken : badRange l ≡ count l → fileAnswer (fileTests l) ≡ Done
+    ranged-taken none = file-ranges l runs ∙ ranges-done l none
+
+    pub refused-range : (badRange l ≡ count l → ⊥) → (Refused (Range (badRange l)) ≡ rewrittenOf l output) × (output ≡ rewriteLeaves l output)
+    refused-range some =
+        refused-file (Range (badRange l)) (file-ranges l runs ∙ range-at l (badRange l) refl some) (λ e. absurd (omega arith))
+
   module _ (done : fileAnswer (fileTests l) ≡ Done) where
     good-file : fileAnswer (rewriteTests l output) ≡ fileAnswer ((leb (length (newFile l)) (length output), Room) ∷ [])
     good-file = in-front-done (fileTests l) ((leb (length (newFile l)) (length output), Room) ∷ []) refl done
@@ -53,3 +71,14 @@ module _ (l output : List ℕ) where
     pub rewritten : length (newFile l) ≤ length output
         → (Length (length (newFile l)) ≡ rewrittenOf l output) × (over 0 (newFile l) output ≡ rewriteLeaves l output)
     rewritten room = by-answer Done (new-room room)
+
+-- What measuring the blocks gives: the length of the new file, or the lowest block whose range is false.
+abbrev pub measuredBy : (l : List ℕ) → Written
+measuredBy l = pick (eqb (badRange l) (count l)) (Length (length (newFile l))) (Refused (Range (badRange l)))
+
+module _ (l : List ℕ) where
+  pub by-ranges : badRange l ≡ count l → measuredBy l ≡ Length (length (newFile l))
+  by-ranges none = ap (λ t. pick t (Length (length (newFile l))) (Refused (Range (badRange l)))) (eq-eqb (badRange l) (count l) none)
+
+  pub by-false : (badRange l ≡ count l → ⊥) → measuredBy l ≡ Refused (Range (badRange l))
+  by-false some = ap (λ t. pick t (Length (length (newFile l))) (Refused (Range (badRange l)))) (ne-eqb (badRange l) (count l) some)

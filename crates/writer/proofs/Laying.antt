@@ -176,7 +176,7 @@ module _ (values : List ℕ) where
 
 -- A block is laid down through the tail of the output, and its entry and its range in their own place.
 module _ (block : List ℕ) (long : length block ≡ 1024) (at : ℕ) (old : List ℕ) (room : at + chosen block .entry .length ≤ length old) where
-  one-laid : (laidOf block (midOf at (length old - at) old) ≡ As (chosen block .entry) (trueRange block))
+  pub one-laid : (laidOf block (midOf at (length old - at) old) ≡ As (chosen block .entry) (trueRange block))
       × (putMid at (length old - at) old (layLeaves block (midOf at (length old - at) old)) ≡ over at (bodyFor block) old)
   one-laid =
       let tail : midOf at (length old - at) old ≡ drop at old = take-all (length old - at) (drop at old) (omega (arith, length-drop at old)) in

@@ -1,5 +1,6 @@
 pub mod Calls
 pub mod FileWritten
+pub mod Keeping
 pub mod Laying
 pub mod Outcomes
 pub mod ReadBack

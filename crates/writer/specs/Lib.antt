@@ -1,2 +1,3 @@
+pub mod InnerKept
 pub mod Reasons
 pub mod Writer

@@ -2,7 +2,7 @@
 -- Assumes nothing.
 use mathlib.Core.Path.{ap₂, _∙_}
 use borrow.Author.Needs.{needs}
-use Rattle.candidates.specs.InnerMeasures.{shorterEntry, entryBy}
+use Rattle.candidates.specs.Measures.{shorterEntry, entryBy}
 use Rattle.candidates.proofs.entry_by.Statement.{statement}
 use Rattle.candidates.proofs.entry_by.Tie as tie
 

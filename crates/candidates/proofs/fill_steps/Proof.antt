@@ -5,11 +5,13 @@ use Prim.Native.Nat.{ℕ, _+_, _-_, _*_}
 use native.Mathlib.Omega.{arith}
 use denote.Ref.{now}
 use borrow.Author.Needs.{needs}
-use borrow.Rule.Slice.PartMut.{midOf, putMid}
+use borrow.Rule.Slice.PartMut.{putMid}
 use Rattle.places.specs.Sizes.{t64}
+use Rattle.packing.specs.Packed.{packOf}
 use Rattle.rows.specs.Rows.{storeOf}
-use Rattle.packing.specs.Calls.{packLeaves}
+use Rattle.candidates.specs.Candidates.{differences}
 use Rattle.candidates.proofs.Filling.{filled-steps}
+use borrow.Author.Needs.{needs}
 use Rattle.candidates.proofs.fill_steps.Statement.{statement}
 use Rattle.candidates.proofs.fill_steps.Tie as tie
 
@@ -25,17 +27,17 @@ mul-end c = search needs
 add-end : tie.Need-add-end
 add-end c = search needs
 
-sub-pack : tie.Need-sub-pack
-sub-pack c = search needs
+sub-pack-steps : tie.Need-sub-pack-steps
+sub-pack-steps c = search needs
 
-part-pack-start : tie.Need-part-pack-start
-part-pack-start c = search needs
+part-pack-steps-start : tie.Need-part-pack-steps-start
+part-pack-steps-start c = search needs
 
-part-pack-end : tie.Need-part-pack-end
-part-pack-end c = search needs
+part-pack-steps-end : tie.Need-part-pack-steps-end
+part-pack-steps-end c = search needs
 
-pack-requires : tie.Need-pack-requires
-pack-requires c κs = search needs
+pack-steps-requires : tie.Need-pack-steps-requires
+pack-steps-requires c κs = search needs
 
 same-length : tie.Need-same-length
 same-length c = search needs
@@ -44,13 +46,13 @@ returns : tie.Need-returns
 returns c =
     let out = c .before .before in
     let based = out .before .before .before .before in
-    let start = based .before .before .before .before .before .before in
+    let start = based .before .before .before .before .before in
     let args = start .args in
     let part : ℕ = 16 + 16 * args .width - 16 in
     let stored = based .store .ensures ∙ ap (storeOf (now (args .words))) (based .before .load .ensures) in
-    ap (putMid 16 part (based .store .last .0)) (out .pack .ensures .1)
-    ∙ ap (λ s. putMid 16 part s (packLeaves t64 (args .width) (now (args .differences)) (midOf 16 part s))) stored
-    ∙ filled-steps (args .width) (now (args .values)) (now (args .differences)) (now (args .words)) (omega arith) (omega arith) (omega arith) (omega arith)
+    ap (putMid 16 part (based .store .last .0)) (out .pack-steps .ensures)
+    ∙ ap (λ s. putMid 16 part s (packOf t64 (args .width) (differences (now (args .values))))) stored
+    ∙ filled-steps (args .width) (now (args .values)) (now (args .words)) (omega arith) (omega arith)
 
 pub fill-steps-spec : {M : Type 1} → statement M
 fill-steps-spec =
@@ -60,9 +62,9 @@ fill-steps-spec =
     store-requires
     mul-end
     add-end
-    sub-pack
-    part-pack-start
-    part-pack-end
-    pack-requires
+    sub-pack-steps
+    part-pack-steps-start
+    part-pack-steps-end
+    pack-steps-requires
     same-length
     returns)

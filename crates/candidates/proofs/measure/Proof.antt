@@ -1,80 +1,80 @@
--- `candidates::measure` meets its contract: each number is the width that it should be.
+-- `candidates::measure` meets its contract: the range and the width are the true ones, so the entry is the chosen one.
 -- Assumes nothing.
-use mathlib.Core.Path.{sym, ap, _∙_}
+use mathlib.Core.Path.{_≡_, sym, ap, ap₂, _∙_}
 use native.Mathlib.Omega.{arith}
 use denote.Ref.{now}
-use lib.Seq.{length-take-le}
 use borrow.Author.Needs.{needs}
 use Rattle.lists.specs.Numbers.{Elements}
 use Rattle.places.specs.Sizes.{t64}
+use Rattle.bodies.specs.Ranges.{trueRange}
+use Rattle.candidates.specs.Candidates.{chosen, differences}
+use Rattle.candidates.specs.Measures.{widthsBy, entryBy}
 use Rattle.candidates.specs.Widths.{widthOf}
-use Rattle.candidates.proofs.Calls.{lowest-highest, differences-left, measured}
+use Rattle.candidates.proofs.Calls.{widths-measured, measured-there, measured-missing}
+use Rattle.candidates.proofs.Choice.{entry-chosen}
+use borrow.Author.Needs.{needs}
 use Rattle.candidates.proofs.measure.Statement.{statement}
 use Rattle.candidates.proofs.measure.Tie as tie
+
+no-entry-requires : tie.Need-no-entry-requires
+no-entry-requires c κs = search needs
+
+any-range-requires : tie.Need-any-range-requires
+any-range-requires c κs = search needs
+
+returns : tie.Need-returns
+returns c =
+    let left = c .before in
+    let values = now (left .before .before .before .args .values) in
+    (λ j. record { entry = left .no-entry .ensures j; range = c .any-range .ensures j; steps = 0 })
+    ∙ sym (measured-missing values (left .before .if1 .taken))
 
 range-of-requires : tie.Need-range-of-requires
 range-of-requires c κs = search needs
 
-slice-aggregate-delta : tie.Need-slice-aggregate-delta
-slice-aggregate-delta c = sym (length-take-le 16 (now (c .before .before .before .before .args .values)) (omega arith))
-
-delta-requires : tie.Need-delta-requires
-delta-requires c κs = search needs
+step-bits-requires : tie.Need-step-bits-requires
+step-bits-requires c κs = search needs
 
 width-of-requires : tie.Need-width-of-requires
 width-of-requires c κs = search needs
 
-sub-width-of : tie.Need-sub-width-of
-sub-width-of c =
-    let range = c .before .before .before .before .before .before .before in
-    let values = now (range .before .before .before .args .values) in
-    omega (arith, lowest-highest values (omega arith), range .range-of .ensures)
+widths-by-requires : tie.Need-widths-by-requires
+widths-by-requires c κs = search needs
 
-width-of-requires-2 : tie.Need-width-of-requires-2
-width-of-requires-2 c κs = search needs
+entry-by-requires : tie.Need-entry-by-requires
+unfolding widthsBy
+entry-by-requires c κs =
+    let is = c .widths-by .ensures in
+    (is .1 .0, (is .1 .1, omega (arith, ap (λ m. m .steps) (is .0), c .before .width-of .ensures .1)))
 
-any-bits-requires : tie.Need-any-bits-requires
-any-bits-requires c κs = search needs
-
-width-of-requires-3 : tie.Need-width-of-requires-3
-width-of-requires-3 c κs = search needs
-
-same-length : tie.Need-same-length
-same-length c = search needs
-
-returns : tie.Need-returns
-returns c =
-    let last = c .before in
-    let second = last .before .before in
-    let first = second .before .before in
-    let out = first .before .before .before in
-    let range = out .before .before .before in
+returns-2 : tie.Need-returns-2
+returns-2 c =
+    let m = c .before in
+    let wide = m .before in
+    let bits = wide .before in
+    let range = bits .before in
     let known = range .before .before in
-    let args = known .before .args in
-    let values = now (args .values) in
-    let small : Elements t64 values = λ i. omega (arith, known .shared-slice-known .given i) in
-    let left = out .delta .ensures .1 ∙ differences-left values (omega arith) (now (args .differences)) (omega arith) in (
-      measured values (omega arith) _ _ _ _ _ _ small
-          (range .range-of .ensures .0)
-          (range .range-of .ensures .1)
-          (first .width-of .ensures .0)
-          (second .width-of2 .ensures .0)
-          (last .any-bits .ensures ∙ ap widthOf left)
-          (c .width-of3 .ensures .0),
-      left,
-    )
+    let values = now (known .before .args .values) in
+    let fits : Elements t64 values = λ i. omega (arith, known .shared-slice-known .given i) in
+    let range-is : range .range-of .result ≡ trueRange values =
+    λ j. record { smallest = range .range-of .ensures .0 j; largest = range .range-of .ensures .1 j } in
+    let steps-is : wide .width-of .result ≡ widthOf (differences values) = wide .width-of .ensures .0 ∙ bits .step-bits .ensures in
+    let entry-is : c .entry-by .result ≡ chosen values .entry =
+    c .entry-by .ensures
+    ∙ ap entryBy (m .widths-by .ensures .0 ∙ ap₂ widthsBy range-is steps-is ∙ widths-measured values (omega arith) fits)
+    ∙ entry-chosen values in
+    (λ j. record { entry = entry-is j; range = range-is j; steps = steps-is j }) ∙ sym (measured-there values (omega arith))
 
 pub measure-spec : {M : Type 1} → statement M
 measure-spec =
     tie.close
     (tie.spec
+    no-entry-requires
+    any-range-requires
+    returns
     range-of-requires
-    slice-aggregate-delta
-    delta-requires
+    step-bits-requires
     width-of-requires
-    sub-width-of
-    width-of-requires-2
-    any-bits-requires
-    width-of-requires-3
-    same-length
-    returns)
+    widths-by-requires
+    entry-by-requires
+    returns-2)

@@ -7,7 +7,7 @@ use lib.ListN.{take}
 use lib.Seq.{take-length}
 use borrow.Author.Needs.{needs}
 use Rattle.little.specs.Little.{writeLeaves}
-use Rattle.candidates.specs.InnerMeasures.{shorterPart}
+use Rattle.candidates.specs.Measures.{shorterPart}
 use Rattle.candidates.proofs.write_shortest.Statement.{statement}
 use Rattle.candidates.proofs.write_shortest.Tie as tie
 

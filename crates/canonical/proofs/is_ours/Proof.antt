@@ -1,79 +1,30 @@
--- `canonical::is_ours` meets its contract: the block is laid down, and the writer's entry and body for it are held to
--- those of the file.
+-- `canonical::is_ours` meets its contract: where the entry is the writer's, so is the body, of differences with the base
+-- that the writer would give.
 -- Assumes nothing.
+use mathlib.Core.Bool.{true}
 use mathlib.Core.Path.{_≡_, sym, ap, ap₂, _∙_}
 use native.Mathlib.Omega.{arith}
 use denote.Ref.{now}
-use lib.ListN.{take, replicate}
-use lib.Seq.{length-take-le}
+use lib.ListN.{length}
 use borrow.Author.Needs.{needs}
 use borrow.Author.Tests.{not-true, not-false}
 use Rattle.lists.specs.Numbers.{Elements}
 use Rattle.lists.specs.Pick.{both}
-use Rattle.lists.specs.Tab.{over}
-use Rattle.lists.proofs.Overs.{over-front}
 use Rattle.contents.specs.Contents.{entryOf}
-use Rattle.bodies.specs.Ranges.{trueRange}
-use Rattle.candidates.specs.declared.Laid.the-variants.{As}
-use Rattle.candidates.specs.Calls.{laidOf, layLeaves, entryLaid}
-use Rattle.candidates.specs.Candidates.{chosen, bodyFor}
-use Rattle.candidates.proofs.Calls.{laid-there}
-use Rattle.candidates.proofs.Choice.{body-sized, chosen-short}
+use Rattle.contents.proofs.Laid.{laid-differences}
+use Rattle.bodies.specs.Bodies.{wordsFrom}
+use Rattle.candidates.specs.Candidates.{baseOf, chosen, bodyFor}
 use Rattle.files.specs.Files.{bodyOf, blockIn}
-use Rattle.bodywise.proofs.Told.{entry-read}
+use Rattle.bodywise.proofs.Told.{entry-read, body-laid}
+use Rattle.files.proofs.Files.{body-long}
 use Rattle.files.proofs.Froms.{body-from-is}
-use Rattle.rewrite.proofs.Rows.{right, block-long, block-laid}
+use Rattle.files.proofs.Ranges.{contents-right}
+use Rattle.rewrite.proofs.Rows.{runs-block}
 use Rattle.canonical.specs.Canonical.{isSameEntry, isSameList, isOurs}
-use Rattle.canonical.proofs.Same.{same-test}
+use Rattle.canonical.proofs.Back.{body-same, base-same}
+use Rattle.canonical.proofs.Same.{entry-same, list-same, same-test}
 use Rattle.canonical.proofs.is_ours.Statement.{statement}
 use Rattle.canonical.proofs.is_ours.Tie as tie
-
--- the writer's entry for block i was given, and its body laid down
-laid-is : (c : tie.After-lay-block) → (c .lay-block .result ≡ As (chosen (blockIn (now (c .before .before .before .before .before .before .before .args .file)) (c .before .before .before .before .before .before .before .args .i)) .entry) (trueRange (blockIn (now (c .before .before .before .before .before .before .before .args .file)) (c .before .before .before .before .before .before .before .args .i)))) × (c .lay-block .last .1 .0 ≡ over 0 (bodyFor (blockIn (now (c .before .before .before .before .before .before .before .args .file)) (c .before .before .before .before .before .before .before .args .i))) (replicate 8192 0))
-laid-is c =
-    let made = c .before .before .before .before in
-    let known = made .before .before in
-    let start = known .before in
-    let l = now (start .args .file) in
-    let i = start .args .i in
-    let bytes : Elements 8 l = λ k. omega (arith, known .shared-slice-known .given k) in
-    let block = block-laid l (start .pre .0) bytes i (start .pre .1 .0) (start .pre .1 .1) (made .block-from .ensures .1) in
-    let is = laid-there (blockIn l i) (replicate 8192 0) (block-long l (start .pre .0) bytes i (start .pre .1 .0)) (chosen-short (blockIn l i)) in (
-      c .lay-block .ensures .0 ∙ ap (λ b. laidOf b (replicate 8192 0)) block ∙ is .0,
-      c .lay-block .ensures .1 ∙ ap (λ b. layLeaves b (replicate 8192 0)) block ∙ is .1,
-    )
-
--- so this entry is the chosen one's
-ours-is : (c : tie.After-entry) → let start = c .before .before .before .before .before .before .before .before .before in c .entry .result ≡ chosen (blockIn (now (start .args .file)) (start .args .i)) .entry
-ours-is c = c .entry .ensures ∙ ap entryLaid (laid-is (c .before .before) .0)
-
--- the test of the entries
-tested-is : (c : tie.After-same-entry) → c .same-entry .result ≡ isSameEntry (entryOf (now (c .before .before .before .before .before .before .before .before .before .before .before .args .file)) (c .before .before .before .before .before .before .before .before .before .before .before .args .i)) (chosen (blockIn (now (c .before .before .before .before .before .before .before .before .before .before .before .args .file)) (c .before .before .before .before .before .before .before .before .before .before .before .args .i)) .entry)
-tested-is c =
-    let read = c .before in
-    let given = read .before in
-    let start = given .before .before .before .before .before .before .before .before .before in
-    c .same-entry .ensures
-    ∙ ap₂ isSameEntry (read .entry-or .ensures ∙ entry-read (now (start .args .file)) (right (now (start .args .file)) (start .pre .0)) (start .args .i) (start .pre .1 .0))
-    (ours-is given)
-
-slice-aggregate-block-from : tie.Need-slice-aggregate-block-from
-slice-aggregate-block-from c = search needs
-
-block-from-requires : tie.Need-block-from-requires
-block-from-requires c κs = search needs
-
-slice-aggregate-lay-block : tie.Need-slice-aggregate-lay-block
-slice-aggregate-lay-block c = search needs
-
-slice-aggregate-lay-block-2 : tie.Need-slice-aggregate-lay-block-2
-slice-aggregate-lay-block-2 c = search needs
-
-lay-block-requires : tie.Need-lay-block-requires
-lay-block-requires c κs = search needs
-
-entry-requires : tie.Need-entry-requires
-entry-requires c κs = search needs
 
 entry-or-requires : tie.Need-entry-or-requires
 entry-or-requires c κs = search needs
@@ -81,68 +32,100 @@ entry-or-requires c κs = search needs
 same-entry-requires : tie.Need-same-entry-requires
 same-entry-requires c κs = search needs
 
+-- the test of the entries, and the entry by it
+abbrev begun : tie.After-same-entry → tie.Start
+begun c = c .before .before .before .before
+
+read-is : (c : tie.After-same-entry) → c .before .entry-or .result ≡ entryOf (now (begun c .args .file)) (begun c .args .i)
+read-is c =
+    let start = begun c in
+    let l = now (start .args .file) in
+    c .before .entry-or .ensures ∙ entry-read l (contents-right l (start .pre .0)) (start .args .i) (start .pre .1 .0)
+
+tested-is : (c : tie.After-same-entry) → c .same-entry .result ≡ isSameEntry (entryOf (now (begun c .args .file)) (begun c .args .i)) (chosen (blockIn (now (begun c .args .file)) (begun c .args .i)) .entry)
+tested-is c = c .same-entry .ensures ∙ ap₂ isSameEntry (read-is c) (begun c .pre .1 .1 .1 .0)
+
 returns : tie.Need-returns
 unfolding isOurs
 returns c =
     let tested = c .before in
-    let start = tested .before .before .before .before .before .before .before .before .before .before .before in
+    let start = begun tested in
     let l = now (start .args .file) in
     let i = start .args .i in
-    sym
-    (ap (λ t. both t (isSameList (bodyOf l i) (bodyFor (blockIn l i)))) (sym (tested-is tested) ∙ not-true _ (c .if1 .taken)))
+    sym (ap (λ t. both t (isSameList (bodyOf l i) (bodyFor (blockIn l i)))) (sym (tested-is tested) ∙ not-true _ (c .if1 .taken)))
 
-body-from-requires : tie.Need-body-from-requires
-body-from-requires c κs = search needs
+is-same : (c : tie.Else1) → isSameEntry (entryOf (now (begun (c .before) .args .file)) (begun (c .before) .args .i)) (chosen (blockIn (now (begun (c .before) .args .file)) (begun (c .before) .args .i)) .entry) ≡ true
+is-same c = sym (tested-is (c .before)) ∙ not-false _ (c .if1 .left)
 
-cast-n : tie.Need-cast-n
-cast-n c = search needs
+same : (c : tie.Else1) → entryOf (now (begun (c .before) .args .file)) (begun (c .before) .args .i) ≡ chosen (blockIn (now (begun (c .before) .args .file)) (begun (c .before) .args .i)) .entry
+same c = entry-same _ _ .0 (is-same c)
 
-array-share-prefix-body : tie.Need-array-share-prefix-body
-array-share-prefix-body c =
-    let given = c .before .before .before .before .before in
-    let start = given .before .before .before .before .before .before .before .before .before in
-    omega (arith, ap (λ e. e .length) (ours-is given), chosen-short (blockIn (now (start .args .file)) (start .args .i)))
-
-slice-aggregate-mine : tie.Need-slice-aggregate-mine
-slice-aggregate-mine c = sym (length-take-le _ _ (array-share-prefix-body (c .before)))
-
-same-requires : tie.Need-same-requires
-same-requires c κs = search needs
+elements : (c : tie.Else1) → Elements 8 (now (begun (c .before) .args .file))
+elements c k = omega (arith, c .before .before .before .before .shared-slice-known .given k)
 
 returns-2 : tie.Need-returns-2
 unfolding isOurs
 returns-2 c =
-    let lent = c .before .before .before in
-    let other = lent .before in
-    let tested = other .before in
-    let given = tested .before .before in
-    let laid = given .before .before in
-    let start = laid .before .before .before .before .before .before .before in
+    let else = c .before .before in
+    let start = begun (else .before) in
     let l = now (start .args .file) in
     let i = start .args .i in
-    let done = start .pre .0 in
-    let same = sym (tested-is tested) ∙ not-false _ (other .if1 .left) in
-    same-test _ _ _ (c .same .ensures)
-    ∙ ap₂ isSameList (lent .body-from .ensures ∙ body-from-is l (right l done) i (start .pre .1 .0) (start .args .at) (start .pre .1 .1))
-    (ap₂ take (ap (λ e. e .length) (ours-is given) ∙ sym (body-sized (blockIn l i))) (laid-is laid .1) ∙ over-front (bodyFor (blockIn l i)) (replicate 8192 0))
-    ∙ sym (ap (λ t. both t (isSameList (bodyOf l i) (bodyFor (blockIn l i)))) same)
+    let body = body-same l (elements else) (contents-right l (start .pre .0)) i (start .pre .1 .0) (same else)
+    (λ k. absurd (c .if2 .taken (ap (λ e. e .kind) (read-is (else .before)) ∙ k))) in
+    sym (ap₂ both (is-same else) (list-same (bodyOf l i) (bodyFor (blockIn l i)) .1 body))
+
+body-from-requires : tie.Need-body-from-requires
+body-from-requires c κs = search needs
+
+-- the kind is 2, and the body is that of the block
+kind-is : (c : tie.Else2) → entryOf (now (begun (c .before .before .before) .args .file)) (begun (c .before .before .before) .args .i) .kind ≡ 2
+kind-is c = sym (ap (λ e. e .kind) (read-is (c .before .before .before))) ∙ c .if2 .left
+
+body-is : (c : tie.After-body-from) → now (c .body-from .result) ≡ bodyOf (now (begun (c .before .before .before .before) .args .file)) (begun (c .before .before .before .before) .args .i)
+body-is c =
+    let start = begun (c .before .before .before .before) in
+    let l = now (start .args .file) in
+    c .body-from .ensures ∙ body-from-is l (contents-right l (start .pre .0)) (start .args .i) (start .pre .1 .0) (start .args .at) (start .pre .1 .1 .0)
+
+is-base-requires : tie.Need-is-base-requires
+is-base-requires c κs =
+    let else = c .before .before .before in
+    let start = begun (else .before) in
+    let l = now (start .args .file) in
+    let i = start .args .i in
+    let right = contents-right l (start .pre .0) in
+    let there = start .pre .1 .0 in (
+      omega (arith, ap length (body-is c), body-long l right i there, laid-differences (entryOf l i) (body-laid l right i there) (kind-is (c .before)) .1),
+      ap length (start .pre .1 .1 .1 .1) ∙ runs-block l (start .pre .0) (elements else) i there .0,
+    )
+
+returns-3 : tie.Need-returns-3
+unfolding isOurs
+returns-3 c =
+    let lent = c .before in
+    let else = lent .before .before .before in
+    let start = begun (else .before) in
+    let l = now (start .args .file) in
+    let i = start .args .i in
+    let right = contents-right l (start .pre .0) in
+    let there = start .pre .1 .0 in
+    let bytes = elements else in
+    let block = start .pre .1 .1 .1 .1 in
+    let fits = runs-block l (start .pre .0) bytes i there .1 in
+    same-test (c .is-base .result) (bodyOf l i) (bodyFor (blockIn l i)) (
+      λ t. body-same l bytes right i there (same else) (λ _. ap (λ b. wordsFrom b 0 16) (sym (body-is lent)) ∙ c .is-base .ensures .0 t ∙ ap baseOf block),
+      λ e. c .is-base .ensures .1 (ap (λ b. wordsFrom b 0 16) (body-is lent) ∙ base-same l bytes right i there (same else) fits (kind-is (lent .before)) e ∙ sym (ap baseOf block)),
+    )
+    ∙ sym (ap (λ t. both t (isSameList (bodyOf l i) (bodyFor (blockIn l i)))) (is-same else))
 
 pub is-ours-spec : {M : Type 1} → statement M
 is-ours-spec =
     tie.close
     (tie.spec
-    slice-aggregate-block-from
-    block-from-requires
-    slice-aggregate-lay-block
-    slice-aggregate-lay-block-2
-    lay-block-requires
-    entry-requires
     entry-or-requires
     same-entry-requires
     returns
+    returns-2
     body-from-requires
-    cast-n
-    array-share-prefix-body
-    slice-aggregate-mine
-    same-requires
-    returns-2)
+    is-base-requires
+    returns-3)

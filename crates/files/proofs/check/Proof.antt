@@ -6,7 +6,7 @@ use borrow.Author.Needs.{needs}
 use Rattle.contents.specs.declared.FileAnswer.the-variants.{Done}
 use Rattle.contents.specs.Answers.{fileAnswer, numberOf}
 use Rattle.contents.proofs.Answers.{number-done}
-use Rattle.files.specs.InnerRuns.{runsTests}
+use Rattle.files.specs.Files.{runsTests}
 use Rattle.files.proofs.Ranges.{file-refused, file-ranges}
 use Rattle.files.proofs.check.Statement.{statement}
 use Rattle.files.proofs.check.Tie as tie

@@ -1,8 +1,8 @@
--- `rewrite::lay_blocks` meets its contract: after each body of the walk the output holds the entries and the bodies up
--- to there.
+-- `rewrite::lay_blocks` meets its contract: after each body of the walk the output holds the entries and the new bodies
+-- up to there.
 -- Assumes nothing.
 use mathlib.Core.List.{_++_}
-use mathlib.Core.Path.{_≡_, sym, ap, _∙_}
+use mathlib.Core.Path.{_≡_, sym, ap, subst, _∙_}
 use Prim.Native.Nat.{_+_, _-_, _≤_, _<_}
 use native.Mathlib.Numerals.{add-one}
 use native.Mathlib.Omega.{arith}
@@ -12,43 +12,50 @@ use borrow.Author.Needs.{needs}
 use Rattle.lists.specs.Numbers.{Elements}
 use Rattle.lists.specs.Tab.{over}
 use Rattle.contents.specs.Contents.{count, entrySize, contentsSize}
-use Rattle.candidates.specs.Candidates.{bodyFor}
+use Rattle.candidates.specs.Candidates.{chosen, bodyFor}
 use Rattle.files.specs.Files.{blockIn, rowsOf}
+use Rattle.files.proofs.Ranges.{file-runs}
 use Rattle.bodywise.proofs.Told.{count-read}
 use Rattle.bodywise.proofs.Walking.{Walking, file-first, file-zero, file-number, file-next}
-use Rattle.writer.specs.Writer.{entriesFor, bodiesFor}
+use Rattle.writer.specs.InnerKept.{KeptAt, Rooms}
+use Rattle.writer.specs.Writer.{blockAt, entriesFor, bodiesFor}
 use Rattle.writer.proofs.Laying.{writtenEntry, bodies-none, bodies-short, bodies-within, laidTo, laid-none, laid-next, laid-length, laid-all}
-use Rattle.rewrite.proofs.Rows.{right, few, length-new, block-at, body-next}
+use Rattle.rewrite.proofs.Rows.{right, few, length-new, block-long, block-at, body-next, runs-laid}
 use Rattle.rewrite.proofs.lay_blocks.Statement.{statement}
 use Rattle.rewrite.proofs.lay_blocks.Tie as tie
 
 abbrev Inv-loop : tie.InvT-loop
-Inv-loop file output₀ n at₀ body₀ output at body =
+Inv-loop file kept output₀ n block₀ plain₀ frame₀ rest₀ at₀ body₀ output block plain frame rest at body =
     Walking file body
     × (n ≡ count file)
     × (at ≡ contentsSize 2 n + length (bodiesFor (rowsOf file) (body .number)))
     × (output ≡ laidTo (rowsOf file) n (body .number) output₀)
+    × (length block ≡ 1024)
+    × Rooms plain frame rest
 
 abbrev μ-loop : tie.MeasureT-loop
-μ-loop file output₀ n at₀ body₀ output at body = n - body .number
-
--- the count that was read, and that it is small
-count-is : (c : tie.After-count Inv-loop μ-loop) → c .count .result ≡ count (now (c .before .before .before .args .file))
-count-is c = let start = c .before .before .before in c .count .ensures ∙ count-read (now (start .args .file)) (right (now (start .args .file)) (start .pre .0))
-
-few-are : (c : tie.After-count Inv-loop μ-loop) → c .count .result ≤ 256
-few-are c = let start = c .before .before .before in omega (arith, count-is c, few (now (start .args .file)) (start .pre .0))
-
--- there is room for all bodies
-room : (c : tie.After-count Inv-loop μ-loop) → contentsSize 2 (c .count .result) + length (bodiesFor (rowsOf (now (c .before .before .before .args .file))) (c .count .result))
-    ≤ length (now (c .before .before .before .args .output))
-room c =
-    let start = c .before .before .before in
-    let l = now (start .args .file) in
-    omega (arith, start .pre .1, length-new l (start .pre .0), ap (λ n. contentsSize 2 n + length (bodiesFor (rowsOf l) n)) (count-is c))
+μ-loop file kept output₀ n block₀ plain₀ frame₀ rest₀ at₀ body₀ output block plain frame rest at body =
+    n - body .number
 
 count-requires : tie.Need-count-requires Inv-loop μ-loop
 count-requires c κs = search needs
+
+-- the count that was read, and that it is small
+abbrev begun : tie.After-count Inv-loop μ-loop → tie.Start Inv-loop μ-loop
+begun c = c .before .before .before .before
+
+count-is : (c : tie.After-count Inv-loop μ-loop) → c .count .result ≡ count (now (begun c .args .file))
+count-is c = c .count .ensures ∙ count-read (now (begun c .args .file)) (right (now (begun c .args .file)) (begun c .pre .0))
+
+few-are : (c : tie.After-count Inv-loop μ-loop) → c .count .result ≤ 256
+few-are c = omega (arith, count-is c, few (now (begun c .args .file)) (begun c .pre .0))
+
+-- there is room for all bodies
+room : (c : tie.After-count Inv-loop μ-loop) → contentsSize 2 (c .count .result) + length (bodiesFor (rowsOf (now (begun c .args .file))) (c .count .result)) ≤ length (now (begun c .args .output))
+room c =
+    let start = begun c in
+    let l = now (start .args .file) in
+    omega (arith, start .pre .1 .1, length-new l (start .pre .0), ap (λ n. contentsSize 2 n + length (bodiesFor (rowsOf l) n)) (count-is c))
 
 mul-at : tie.Need-mul-at Inv-loop μ-loop
 mul-at c = omega (arith, few-are c)
@@ -62,7 +69,7 @@ first-requires c κs = search needs
 loop-holds : tie.Need-loop-holds Inv-loop μ-loop
 unfolding contentsSize entrySize
 loop-holds c =
-    let start = c .before .before .before .before in
+    let start = begun (c .before) in
     let l = now (start .args .file) in
     let n = c .before .count .result in
     let zero = file-zero l (right l (start .pre .0)) (c .first .ensures) in (
@@ -70,91 +77,149 @@ loop-holds c =
       count-is (c .before),
       omega (arith, ap (λ i. length (bodiesFor (rowsOf l) i)) zero, ap length (bodies-none (rowsOf l))),
       laid-none (rowsOf l) n (now (start .args .output)) ∙ ap (λ i. laidTo (rowsOf l) n i (now (start .args .output))) (sym zero),
+      search needs,
+      (search needs, (search needs, search needs)),
     )
+
+slice-aggregate-block-from : tie.Need-slice-aggregate-block-from Inv-loop μ-loop
+slice-aggregate-block-from c = omega (arith, c .before .before .before .loop .inv .4)
+
+block-from-requires : tie.Need-block-from-requires Inv-loop μ-loop
+block-from-requires c κs = search needs
+
+-- the block that was laid down
+abbrev walked : tie.After-block-from Inv-loop μ-loop → tie.At-loop Inv-loop μ-loop
+walked c = c .before .before .before .before
+
+abbrev started : tie.After-block-from Inv-loop μ-loop → tie.Start Inv-loop μ-loop
+started c = begun (walked c .before .before)
+
+there : (c : tie.After-block-from Inv-loop μ-loop) → walked c .loop .body .number < count (now (started c .args .file))
+there c = omega (arith, walked c .loop .inv .1)
+
+elements : (c : tie.After-block-from Inv-loop μ-loop) → Elements 8 (now (started c .args .file))
+elements c k = omega (arith, walked c .before .before .before .before .before .shared-slice-known .given k)
+
+block-is : (c : tie.After-block-from Inv-loop μ-loop) → c .block-from .last .1 .1 .1 .0 ≡ blockIn (now (started c .args .file)) (walked c .loop .body .number)
+block-is c =
+    let at-loop = walked c in
+    let l = now (started c .args .file) in
+    runs-laid l (file-runs l (started c .pre .0)) (elements c) (at-loop .loop .body .number) (there c) (at-loop .loop .block) (at-loop .loop .inv .4) (at-loop .loop .inv .0 .start) (c .block-from .ensures .1)
+
+is-long : (c : tie.After-block-from Inv-loop μ-loop) → length (c .block-from .last .1 .1 .1 .0) ≡ 1024
+is-long c = ap length (block-is c) ∙ block-long (now (started c .args .file)) (started c .pre .0) (elements c) (walked c .loop .body .number) (there c)
+
+slice-aggregate-lay-one : tie.Need-slice-aggregate-lay-one Inv-loop μ-loop
+slice-aggregate-lay-one c = omega (arith, is-long (c .before .before))
+
+slice-aggregate-lay-one-2 : tie.Need-slice-aggregate-lay-one-2 Inv-loop μ-loop
+slice-aggregate-lay-one-2 c = omega (arith, walked (c .before .before .before) .loop .inv .5)
+
+slice-aggregate-lay-one-3 : tie.Need-slice-aggregate-lay-one-3 Inv-loop μ-loop
+slice-aggregate-lay-one-3 c = omega (arith, walked (c .before .before .before .before) .loop .inv .5)
+
+slice-aggregate-lay-one-4 : tie.Need-slice-aggregate-lay-one-4 Inv-loop μ-loop
+slice-aggregate-lay-one-4 c = omega (arith, walked (c .before .before .before .before .before) .loop .inv .5)
 
 lay-one-requires : tie.Need-lay-one-requires Inv-loop μ-loop
 unfolding contentsSize entrySize
 lay-one-requires c κs =
-    let at-loop = c .before .before .before in
+    let laid = c .before .before .before .before .before .before in
+    let at-loop = walked laid in
     let read = at-loop .before .before in
-    let known = read .before .before in
-    let start = known .before in
+    let start = begun read in
     let l = now (start .args .file) in
     let n = read .count .result in
     let loop = at-loop .loop in
     let i = loop .body .number in
-    let bytes : Elements 8 l = λ k. omega (arith, known .shared-slice-known .given k) in
-    let there : i < count l = omega (arith, loop .inv .1) in
-    let same = ap length (loop .inv .3) ∙ laid-length (rowsOf l) n (now (start .args .output)) (room read) i (omega arith) in
-    let within = bodies-within (rowsOf l) (i + 1) n (omega arith) in
-    (start .pre .0, (there, (loop .inv .0 .start, (omega (arith, loop .inv .2), omega (arith, loop .inv .2, same, room read, within, body-next l (start .pre .0) bytes i there)))))
+    let is = block-is laid in
+    let same = ap length (loop .inv .3) ∙ laid-length (rowsOf l) n (now (start .args .output)) (room read) i (omega (arith, there laid, loop .inv .1)) in
+    let within = bodies-within (rowsOf l) (i + 1) n (omega (arith, there laid, loop .inv .1)) in
+    let as-long = ap (λ b. chosen b .entry .length) is in (
+      is-long laid,
+      (
+        (omega (arith, there laid, few l (start .pre .0)), start .pre .1 .0 .0),
+        (
+          subst (λ b. KeptAt b (now (start .args .kept)) i) (sym is) (start .pre .1 .0 .1 i (there laid)),
+          (
+            loop .inv .5,
+            (omega (arith, loop .inv .2, there laid, loop .inv .1), omega (arith, as-long, loop .inv .2, same, room read, within, body-next l (start .pre .0) (elements laid) i (there laid))),
+          ),
+        ),
+      ),
+    )
 
 -- one body more
-grown : (c : tie.After-lay-one Inv-loop μ-loop) → c .before .before .before .before .loop .at + c .lay-one .result
-    ≡ contentsSize 2 (c .before .before .before .before .before .before .count .result)
-    + length (bodiesFor (rowsOf (now (c .before .before .before .before .before .before .before .before .before .args .file))) (c .before .before .before .before .loop .body .number + 1))
+abbrev from : tie.After-lay-one Inv-loop μ-loop → tie.After-block-from Inv-loop μ-loop
+from c = c .before .before .before .before .before .before .before
+
+grown : (c : tie.After-lay-one Inv-loop μ-loop) → walked (from c) .loop .at + c .lay-one .result
+    ≡ contentsSize 2 (walked (from c) .before .before .count .result) + length (bodiesFor (rowsOf (now (started (from c) .args .file))) (walked (from c) .loop .body .number + 1))
 grown c =
-    let at-loop = c .before .before .before .before in
-    let known = at-loop .before .before .before .before in
-    let start = known .before in
-    let l = now (start .args .file) in
-    let loop = at-loop .loop in
-    let bytes : Elements 8 l = λ k. omega (arith, known .shared-slice-known .given k) in
-    omega (arith, loop .inv .2, c .lay-one .ensures .0, body-next l (start .pre .0) bytes (loop .body .number) (omega (arith, loop .inv .1)))
+    let laid = from c in
+    let loop = walked laid .loop in
+    omega (arith, loop .inv .2, c .lay-one .ensures .0 ∙ ap (λ b. chosen b .entry .length) (block-is laid), body-next (now (started laid .args .file)) (started laid .pre .0) (elements laid) (loop .body .number) (there laid))
 
 add-at-2 : tie.Need-add-at-2 Inv-loop μ-loop
 unfolding contentsSize entrySize
 add-at-2 c =
-    let one = c .before .before in
-    let at-loop = one .before .before .before .before in
+    let one = c .before .before .before .before .before in
+    let at-loop = walked (from one) in
     let read = at-loop .before .before in
-    let l = now (read .before .before .before .args .file) in
-    omega (arith, grown one, few-are read, bodies-short (rowsOf l) (at-loop .loop .body .number + 1), at-loop .loop .inv .0 .within, at-loop .loop .inv .1)
+    omega (arith, grown one, few-are read, bodies-short (rowsOf (now (begun read .args .file))) (at-loop .loop .body .number + 1), there (from one), at-loop .loop .inv .1)
 
 next-requires : tie.Need-next-requires Inv-loop μ-loop
 next-requires c κs = search needs
 
 -- one body further
-next-number : (c : tie.After-next Inv-loop μ-loop) → c .next .result .number ≡ c .before .before .before .before .before .before .before .loop .body .number + 1
+short : (c : tie.At-loop Inv-loop μ-loop) → length (now (begun (c .before .before) .args .file)) < 18446744073709551616
+short c = omega arith
+
+next-number : (c : tie.After-next Inv-loop μ-loop) → c .next .result .number ≡ walked (from (c .before .before .before .before .before .before)) .loop .body .number + 1
 next-number c =
-    let at-loop = c .before .before .before .before .before .before .before in
-    let start = at-loop .before .before .before .before .before in
-    let l = now (start .args .file) in
-    file-number l (right l (start .pre .0)) (omega arith) (at-loop .loop .inv .0) (omega (arith, at-loop .loop .inv .1)) (c .next .ensures)
+    let laid = from (c .before .before .before .before .before .before) in
+    let l = now (started laid .args .file) in
+    file-number l (right l (started laid .pre .0)) (short (walked laid)) (walked laid .loop .inv .0) (there laid) (c .next .ensures)
 
 loop-less : tie.Need-loop-less Inv-loop μ-loop
-loop-less c = omega (arith, next-number c)
+loop-less c =
+    let laid = from (c .before .before .before .before .before .before) in
+    omega (arith, next-number c, there laid, walked laid .loop .inv .1)
 
 loop-again : tie.Need-loop-again Inv-loop μ-loop
 loop-again c =
-    let one = c .before .before .before in
-    let at-loop = one .before .before .before .before in
+    let one = c .before .before .before .before .before .before in
+    let laid = from one in
+    let rest = c .before .before .before in
+    let frame = rest .before in
+    let plain = frame .before in
+    let at-loop = walked laid in
     let read = at-loop .before .before in
-    let known = read .before .before in
-    let start = known .before in
+    let start = begun read in
     let l = now (start .args .file) in
     let n = read .count .result in
     let loop = at-loop .loop in
     let i = loop .body .number in
     let old = now (start .args .output) in
-    let there : i < count l = omega (arith, loop .inv .1) in
-    let bytes : Elements 8 l = λ k. omega (arith, known .shared-slice-known .given k) in
-    let block = block-at l (start .pre .0) bytes i there in (
-      file-next l (right l (start .pre .0)) (omega arith) (loop .inv .0) there (c .next .ensures),
+    let is = block-is laid in
+    let block = block-at l (start .pre .0) (elements laid) i (there laid) in (
+      file-next l (right l (start .pre .0)) (short at-loop) (loop .inv .0) (there laid) (c .next .ensures),
       loop .inv .1,
       grown one ∙ ap (λ k. contentsSize 2 n + length (bodiesFor (rowsOf l) k)) (sym (next-number c)),
       one .lay-one .ensures .1
-          ∙ ap (λ x. over (contentsSize 2 i) (writtenEntry (blockIn l i)) (over (loop .at) (bodyFor (blockIn l i)) x)) (loop .inv .3)
-          ∙ ap (λ b. over (contentsSize 2 i) (writtenEntry b) (over (loop .at) (bodyFor b) (laidTo (rowsOf l) n i old))) (sym block)
-          ∙ laid-next (rowsOf l) n old (room read) i (loop .at) (omega arith) (loop .inv .2)
+          ∙ ap (λ b. over (contentsSize 2 i) (writtenEntry b) (over (loop .at) (bodyFor b) (loop .output))) (is ∙ sym block)
+          ∙ ap (λ x. over (contentsSize 2 i) (writtenEntry (blockAt (rowsOf l) i)) (over (loop .at) (bodyFor (blockAt (rowsOf l) i)) x)) (loop .inv .3)
+          ∙ laid-next (rowsOf l) n old (room read) i (loop .at) (omega (arith, there laid, loop .inv .1)) (loop .inv .2)
           ∙ ap (λ k. laidTo (rowsOf l) n k old) (sym (next-number c ∙ add-one i)),
+      is-long laid,
+      (omega (arith, plain .plain2 .given), (omega (arith, frame .frame2 .given), omega (arith, rest .rest2 .given))),
     )
 
 same-length : tie.Need-same-length Inv-loop μ-loop
 same-length c =
     let at-loop = c .before .before in
     let read = at-loop .before .before in
-    let start = read .before .before .before in
+    let start = begun read in
     let l = now (start .args .file) in
     let loop = at-loop .loop in
     ap length (loop .inv .3) ∙ laid-length (rowsOf l) (read .count .result) (now (start .args .output)) (room read) (loop .body .number) (omega (arith, loop .inv .0 .within, loop .inv .1))
@@ -163,7 +228,7 @@ returns : tie.Need-returns Inv-loop μ-loop
 returns c =
     let at-loop = c .before .before in
     let read = at-loop .before .before in
-    let start = read .before .before .before in
+    let start = begun read in
     let l = now (start .args .file) in
     let loop = at-loop .loop in
     let old = now (start .args .output) in
@@ -185,6 +250,12 @@ lay-blocks-spec =
     add-at
     first-requires
     loop-holds
+    slice-aggregate-block-from
+    block-from-requires
+    slice-aggregate-lay-one
+    slice-aggregate-lay-one-2
+    slice-aggregate-lay-one-3
+    slice-aggregate-lay-one-4
     lay-one-requires
     add-at-2
     next-requires

@@ -18,20 +18,22 @@ use Rattle.rewrite.proofs.lay_file.Statement.{statement}
 use Rattle.rewrite.proofs.lay_file.Tie as tie
 
 -- the count that was read
-count-is : (c : tie.After-count) → c .count .result ≡ count (now (c .before .before .before .args .file))
-count-is c = let start = c .before .before .before in c .count .ensures ∙ count-read (now (start .args .file)) (right (now (start .args .file)) (start .pre .0))
+count-is : (c : tie.After-count) → c .count .result ≡ count (now (c .before .before .before .before .args .file))
+count-is c = let start = c .before .before .before .before in c .count .ensures ∙ count-read (now (start .args .file)) (right (now (start .args .file)) (start .pre .0))
 
 count-requires : tie.Need-count-requires
 count-requires c κs = search needs
 
 cast-put-head : tie.Need-cast-put-head
-cast-put-head c = let start = c .before .before .before in omega (arith, count-is c, few (now (start .args .file)) (start .pre .0))
+cast-put-head c = let start = c .before .before .before .before in omega (arith, count-is c, few (now (start .args .file)) (start .pre .0))
 
 put-head-requires : tie.Need-put-head-requires
 put-head-requires c κs = search needs
 
 lay-blocks-requires : tie.Need-lay-blocks-requires
-lay-blocks-requires c κs = search needs
+lay-blocks-requires c κs =
+    let start = c .before .before .before .before .before .before .before .before .before in
+    (start .pre .0, (start .pre .1 .0, omega arith))
 
 same-length : tie.Need-same-length
 same-length c = search needs
@@ -42,14 +44,14 @@ returns c =
     let out = c .before .before in
     let head = out .before .before .before .before in
     let read = head .before .before in
-    let start = read .before .before .before in
+    let start = read .before .before .before .before in
     let l = now (start .args .file) in
     let old = now (start .args .output) in
     out .lay-blocks .ensures
     ∙ ap (over 4 (entriesFor (rowsOf l) (count l) ++ bodiesFor (rowsOf l) (count l)))
-    (head .put-head .ensures ∙ ap (λ n. headLeaves n old) (count-is read) ∙ head-fits (count l) old (omega (arith, start .pre .1, length-new l (start .pre .0))))
+    (head .put-head .ensures ∙ ap (λ n. headLeaves n old) (count-is read) ∙ head-fits (count l) old (omega (arith, start .pre .1 .1, length-new l (start .pre .0))))
     ∙ ap (λ n. over 4 (entriesFor (rowsOf l) n ++ bodiesFor (rowsOf l) n) (over 0 (headBytes n) old)) (sym (rows-blocks l (start .pre .0)))
-    ∙ file-laid (rowsOf l) old (start .pre .1)
+    ∙ file-laid (rowsOf l) old (start .pre .1 .1)
 
 pub lay-file-spec : {M : Type 1} → statement M
 lay-file-spec =

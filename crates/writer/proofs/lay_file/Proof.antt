@@ -10,6 +10,7 @@ use Rattle.contents.specs.Contents.{entrySize, contentsSize}
 use Rattle.contents.proofs.Bytes.{head-fits}
 use Rattle.writer.specs.Writer.{blockCount, entriesFor, bodiesFor}
 use Rattle.writer.proofs.Laying.{length-file, file-laid}
+use borrow.Author.Needs.{needs}
 use Rattle.writer.proofs.lay_file.Statement.{statement}
 use Rattle.writer.proofs.lay_file.Tie as tie
 
@@ -20,7 +21,9 @@ put-head-requires : tie.Need-put-head-requires
 put-head-requires c κs = search needs
 
 lay-blocks-requires : tie.Need-lay-blocks-requires
-lay-blocks-requires c κs = search needs
+lay-blocks-requires c κs =
+    let start = c .before .before .before .before .before .before .before .before in
+    (start .pre .0, (start .pre .1 .0, omega arith))
 
 same-length : tie.Need-same-length
 same-length c = search needs
@@ -30,7 +33,7 @@ unfolding contentsSize entrySize
 returns c =
     let out = c .before .before in
     let head = out .before .before .before .before in
-    let args = head .before .before .before .before .args in
+    let args = head .before .before .before .before .before .args in
     let values = now (args .values) in
     let old = now (args .output) in
     out .lay-blocks .ensures
