@@ -498,9 +498,9 @@ fn hand_renumbered(
 {
     *length = result.length();
     *changed = result.changed();
-    let outcome = result.answer();
-    *place = outcome.place();
-    outcome.number()
+    let said = result.answer();
+    *place = said.place();
+    said.number()
 }
 
 // Hands over what a search gives.

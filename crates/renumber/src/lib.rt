@@ -1,11 +1,12 @@
-// A column file is renumbered: by a list of pairs, old and new, every row whose number is listed gets its new number, and
-// every other row stays. The new file is what the writer gives for these rows. Beside the file, the lists and the output
-// there is room for one block of numbers, and for the candidates of one block.
+// A column file is renumbered: by a list of pairs, old and new, every row whose number is listed gets its new number,
+// and every other row stays. The new file is what the writer gives for these rows. Beside the file, the lists and the
+// output there is room for one block of numbers, and for the candidates of one block.
 //
-// The file is gone through twice behind its check: once for the lowest row that would become one with another number, for
-// the new file's length and for how many rows change, and once to write. So a refused call writes nothing. A number is
-// looked up by halving. In a block whose smallest and largest number have no old number between them none is replaced, and
-// in one that has no new number between them none is taken; so where neither is the case nothing is looked up.
+// The file is gone through twice behind its check: once for the lowest row that would become one with another number,
+// for the new file's length and for how many rows change, and once to write. So a refused call writes nothing. A number
+// is looked up by halving. In a block whose smallest and largest number have no old number between them none is
+// replaced, and in one that has no new number between them none is taken; so where neither is the case nothing is
+// looked up.
 mod pairs;
 
 use bodies::range_of;
@@ -119,16 +120,16 @@ impl Renumbered {
     }
 }
 
-// What is known before anything is written: the lowest row or place that is taken, the bytes of what is to be written, and
-// how many numbers change.
+// What is known before anything is written: the lowest row or place that is taken, the bytes of what is to be written,
+// and how many numbers change.
 struct Measured {
     taken: usize,
     size: usize,
     changed: usize,
 }
 
-// Writes the file's rows, renumbered by the pairs, as a new file at the front of the output. The order has the places of
-// the pairs by rising new number.
+// Writes the file's rows, renumbered by the pairs, as a new file at the front of the output. The order has the places
+// of the pairs by rising new number.
 pub fn renumber(
     file: &[u8],
     old: &[u64],
@@ -191,8 +192,8 @@ fn check_lists(old: &[u64], new: &[u64], order: &[u64]) -> RenumberAnswer
     RenumberAnswer::File(FileAnswer::Done)
 }
 
-// Goes through the file for the lowest row that is taken, the new file's length and how many rows change. It ends at the
-// first block that has a taken row.
+// Goes through the file for the lowest row that is taken, the new file's length and how many rows change. It ends at
+// the first block that has a taken row.
 fn measure(file: &[u8], old: &[u64], new: &[u64], order: &[u64]) -> Measured
     requires { ⌜ FileTaken (now file) ⌝ }
     requires { ⌜ Paired (now old) (now new) (now order) ⌝ }
@@ -251,7 +252,8 @@ fn measure_one(
     }
 }
 
-// The range of block i, which was laid down: in edition 2 its entry says it, and the check has looked whether that is true.
+// The range of block i, which was laid down: in edition 2 its entry says it, and the check has looked whether that is
+// true.
 fn range_in(file: &[u8], i: usize, block: &[u64]) -> Range
     requires { ⌜ FileTaken (now file) ⌝ }
     requires { ⌜ i < countIn (now file) ⌝ }
@@ -284,8 +286,8 @@ fn first_taken(block: &[u64], range: Range, old: &[u64], new: &[u64], order: &[u
     k
 }
 
-// Renumbers a block, and gives how many of its numbers changed. In a block that has no old number between its smallest and
-// its largest none does.
+// Renumbers a block, and gives how many of its numbers changed. In a block that has no old number between its smallest
+// and its largest none does.
 fn replace(block: &mut [u64], range: Range, old: &[u64], new: &[u64]) -> usize
     requires { ⌜ range ≡ trueRange (now block) ⌝ }
     requires { ⌜ Rising (now old) ⌝ }

@@ -1,5 +1,5 @@
-// A list of pairs: what a number becomes, and whether the list is one. Old numbers are found by halving, and new ones by
-// halving along the order. The module is private: its functions are public to the module above alone.
+// A list of pairs: what a number becomes, and whether the list is one. Old numbers are found by halving, and new ones
+// by halving along the order. The module is private: its functions are public to the module above alone.
 ghost use mathlib.Core.Path.{_≡_};
 ghost use Prim.Native.Nat.{_-_, _<_, min};
 ghost use lib.ListN.{length, getD};
@@ -139,8 +139,8 @@ pub fn first_unrising(list: &[u64]) -> usize
     list.len()
 }
 
-// The lowest place of the order that says no pair, or one that does not come behind the pair before it; the length where
-// there is none.
+// The lowest place of the order that says no pair, or one that does not come behind the pair before it; the length
+// where there is none.
 pub fn first_disordered(new: &[u64], order: &[u64]) -> usize
     ensures { λ r. ⌜ r ≡ disorderedAt (now (new .entry)) (now (order .entry)) ⌝ }
 {

@@ -1,7 +1,7 @@
-// The calls on files, drawers and a body that trickles in: what each takes, and how those on files are made. A call
-// has a line in `takes`; one that reads a file has a line in `call`, those that write a file are made by `write`,
-// `rewrite` and `renumber`, the calls on drawers are made in the modules drawer of the sizes, and those on a body that trickles in
-// in trickles.
+// The calls on files, drawers and a body that trickles in: what each takes, and how those on files are made. A call has
+// a line in `takes`; one that reads a file has a line in `call`, those that write a file are made by `write`, `rewrite`
+// and `renumber`, the calls on drawers are made in the modules drawer of the sizes, and those on a body that trickles
+// in in trickles.
 use access::NO_COUNT;
 use access::Words;
 use contents::FileAnswer;

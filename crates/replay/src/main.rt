@@ -1,18 +1,18 @@
-// Replays a case stream: reads it on standard input, makes each call through the public functions, compares
-// everything that the call gives back and leaves with what the stream expects, and prints how many cases differ. The
-// format of the stream and of what is printed is docs/CASES.md.
+// Replays a case stream: reads it on standard input, makes each call through the public functions, compares everything
+// that the call gives back and leaves with what the stream expects, and prints how many cases differ. The format of the
+// stream and of what is printed is docs/CASES.md.
 //
-// The calls are of two sorts. Those on blocks have small buffers, and what a call does not take may be there; a
-// record of the others, on column files, drawers and a body that comes in chunks, ends the reading as a bad stream
-// where it gives something that its call does not take. Of what is expected nothing is impossible: a value, a place
-// or a reference that a call does not give back is expected to be 0, and a case that expects something else differs.
+// The calls are of two sorts. Those on blocks have small buffers, and what a call does not take may be there; a record
+// of the others, on column files, drawers and a body that comes in chunks, ends the reading as a bad stream where it
+// gives something that its call does not take. Of what is expected nothing is impossible: a value, a place or a
+// reference that a call does not give back is expected to be 0, and a case that expects something else differs.
 //
-// Here stand the loop over the cases and the way to each. Of the modules, wire reads the stream. block_calls says
-// what the calls on blocks take, and block_cases has their cases: t8, t16, t32 and t64 make the calls, with the help
-// of indices, and bit_block those on bit blocks; outcome compares. file_calls says what the others take; file_cases
-// makes the calls on files but for the one that rewrites a file, which rewrites makes, and the one that renumbers one,
-// which renumberings makes; the module drawer of each size makes those on drawers, and trickles those on a body that comes in chunks. print prints. The crate stream has the
-// head of a record, the judge and the counts.
+// Here stand the loop over the cases and the way to each. Of the modules, wire reads the stream. block_calls says what
+// the calls on blocks take, and block_cases has their cases: t8, t16, t32 and t64 make the calls, with the help of
+// indices, and bit_block those on bit blocks; outcome compares. file_calls says what the others take; file_cases makes
+// the calls on files but for the one that rewrites a file, which rewrites makes, and the one that renumbers one, which
+// renumberings makes; the module drawer of each size makes those on drawers, and trickles those on a body that comes in
+// chunks. print prints. The crate stream has the head of a record, the judge and the counts.
 mod bit_block;
 mod block_calls;
 mod block_cases;

@@ -11,7 +11,8 @@ use stream::Reply;
 use stream::Step;
 ghost use Prim.Native.Nat.{_≤_};
 
-// A case after its head. The buffers are made here: the file, the lists and the output. A fourth would not fit the stack.
+// A case after its head. The buffers are made here: the file, the lists and the output. A fourth would not fit the
+// stack.
 pub fn case(head: Head) -> Step {
     let mut file = [0u8; 2_200_000];
     let mut lists = [0u64; 275_000];
@@ -28,8 +29,8 @@ fn lend(
     made(head, file, lists, output)
 }
 
-// Reads the buffers, makes the call and compares. The lists are read by way of the output, which is read behind them; and
-// after the call the bytes that the output is to have are read where the file stood.
+// Reads the buffers, makes the call and compares. The lists are read by way of the output, which is read behind them;
+// and after the call the bytes that the output is to have are read where the file stood.
 fn made(head: Head, file: &mut [u8], lists: &mut [u64], output: &mut [u8]) -> Step {
     if !read_bytes(head.n_a, file) {
         return Step::Bad;
