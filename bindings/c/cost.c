@@ -26,6 +26,8 @@ enum {
     PASS = 201,        /* the file checked, and then each block laid down by its body */
     RECALL = 202,      /* the last row of a file that was checked before, out of its block laid down by its body */
     ROW = 203,         /* one row after another of the last block of a file that was checked before, looked up in its body */
+    FIND_ALL = 204,    /* a search that finds every row of the file */
+    FIND_HALF = 205,   /* a search that finds about half of the rows of each block */
     NO_CALL = 255,
     BLOCK = 1024,
     DRAWER = 16,
@@ -87,7 +89,7 @@ AT_SIZE(u16, uint16_t, 16)
 AT_SIZE(u8, uint8_t, 8)
 
 /* A column file, the values that it holds, and room for what is made of it; and where its last body begins, and its first row. */
-static uint64_t values[MOST * BLOCK], rows[BLOCK];
+static uint64_t values[MOST * BLOCK], rows[MOST * BLOCK];
 static uint8_t file[MOST * 2400 + 8196], made[sizeof file];
 static size_t file_length, front_length, last_start, last_row;
 
@@ -102,7 +104,7 @@ static void fill_block(const struct request *r)
     }
     if (r->kind == 2) {
         fascjoldi_undelta_u64(values, BLOCK, out_u64, 16, rows, BLOCK, &place);
-        memcpy(values, rows, sizeof rows);
+        memcpy(values, rows, BLOCK * sizeof rows[0]);
     }
 }
 
@@ -171,6 +173,14 @@ static size_t pass(void)
     return answers;
 }
 
+/* A search between two numbers, which finds at least so many rows. */
+static size_t find(uint64_t low, uint64_t high, size_t least)
+{
+    size_t found, opened, place;
+    size_t answer = fascjoldi_file_search(file, file_length, low, high, rows, MOST * BLOCK, &found, &opened, &place);
+    return answer + (found < least);
+}
+
 /* The calls on a file. A search is for all numbers, and finds the rows of the one block; where there are none or more, it is for a number that
    no block has. What is known of a result is held to it: 1 is added to the answer where it differs. */
 static size_t call_file(const struct request *r, size_t turn)
@@ -193,6 +203,8 @@ static size_t call_file(const struct request *r, size_t turn)
     case 21: return fascjoldi_file_rewrite(file, file_length, made, sizeof made, &found, &place);
     case 22: return fascjoldi_file_check_canonical(file, file_length, &place);
     case PASS: return pass();
+    case FIND_ALL: return find(0, ~(uint64_t)0, blocks * BLOCK);
+    case FIND_HALF: return find(values[0] + 32768, values[0] + 98303, blocks * BLOCK / 3);
     case RECALL: return by_body(blocks - 1, file_length - body, body) + (out_u64[BLOCK - 1] != values[BLOCK - 1]);
     default: return 1;
     }

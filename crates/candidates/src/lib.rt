@@ -151,8 +151,8 @@ pub fn measure(values: &[u64]) -> Measured
     }
 }
 
-// The entry of the candidate that is chosen by a range and a width of the differences; one of no kind where the width is
-// above 64.
+// The entry of the candidate that is chosen by a range and a width of the differences; one of no kind where the width
+// is above 64.
 pub fn entry_with(range: Range, steps: usize) -> Entry
     ensures { λ r. ⌜ r ≡ entryWith range steps ⌝ }
 {
