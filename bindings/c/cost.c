@@ -189,6 +189,7 @@ static size_t call_file(const struct request *r, size_t turn)
     const uint64_t high = blocks == 1 ? ~(uint64_t)0 : 0;
     size_t place, found, opened, answer;
     uint64_t value, count;
+    (void)turn;
     switch (r->op) {
     case FRONT_CHECK: return fascjoldi_front_check(file, front_length, file_length, &place);
     case 16: return fascjoldi_file_check(file, file_length, &place);
