@@ -200,6 +200,30 @@ static void files(void)
     expect("sevens rewritten bytes", (uint64_t)memcmp(file, sevens2, 36), 0);
 }
 
+/* The file of sevens becomes one of nines, and the list turned round gives it back. */
+static void renumbered(void)
+{
+    static const uint64_t seven[1] = {7}, nines[1] = {9}, first[1] = {0};
+    static uint8_t renamed[64], back[64];
+    size_t length = 77, changed = 77, place = 77;
+    uint64_t value = 77, words = 77;
+    expect("sevens renumbered",
+        fascjoldi_file_renumber(sevens2, 36, seven, 1, nines, 1, first, 1, renamed, 64, &length, &changed, &place), FASCJOLDI_DONE);
+    expect("its length", length, 36);
+    expect("its rows that changed", changed, 1024);
+    expect("its last row", fascjoldi_file_row_at(renamed, 36, 1023, &value, &words, &place), FASCJOLDI_DONE);
+    expect("its last row's number", value, 9);
+    expect("renumbered back",
+        fascjoldi_file_renumber(renamed, 36, nines, 1, seven, 1, first, 1, back, 64, &length, &changed, &place), FASCJOLDI_DONE);
+    expect("back, its bytes", (uint64_t)memcmp(back, sevens2, 36), 0);
+    expect("lists of two lengths",
+        fascjoldi_file_renumber(sevens2, 36, seven, 1, nines, 0, first, 1, back, 64, &length, &changed, &place), FASCJOLDI_LENGTHS);
+    expect("lists of two lengths, a length", length, 0);
+    expect("a new number that a row has",
+        fascjoldi_file_renumber(nine, 292, nines, 1, seven, 1, first, 1, back, 64, &length, &changed, &place), FASCJOLDI_TAKEN);
+    expect("a new number that a row has, the row", place, 0);
+}
+
 /* The walk over the bodies of that file, of which there is one, and a search of it by its front and its one block: the numbers from 8 to 9 are those that
    a search of the whole file lists. */
 static void walk(void)
@@ -301,6 +325,7 @@ static void fronts(void)
     expect("body read", fascjoldi_body_block_out(nine, 36, 0, nine + 36, 256, values64, 1024, &place), FASCJOLDI_DONE);
     expect("body's numbers", (uint64_t)memcmp(values64, out64, 8192), 0);
     expect("range checked", fascjoldi_body_check_range(nine, 36, 0, values64, 1024, &place), FASCJOLDI_DONE);
+    renumbered();
     walk();
     rows_by_body();
     values64[5] = 10;

@@ -75,6 +75,14 @@ pub fn rewrite(file: &[u8], output: &mut [u8]) -> Result<usize, Refused> {
     asked!(columns::file_rewrite(file.as_ptr(), file.len(), output.as_mut_ptr(), output.len(), &mut length) gives length)
 }
 
+/// Writes a readable column file with other numbers: where a row has the number `olds[i]` it gets `news[i]`, and every other row stays. The old
+/// numbers rise, and `order` has the places of the pairs by rising new number. Gives the length of the new file and how many rows changed.
+pub fn renumber(file: &[u8], olds: &[u64], news: &[u64], order: &[u64], output: &mut [u8]) -> Result<(usize, usize), Refused> {
+    let (mut length, mut changed) = (0, 0);
+    asked!(columns::file_renumber(file.as_ptr(), file.len(), olds.as_ptr(), olds.len(), news.as_ptr(), news.len(), order.as_ptr(), order.len(),
+        output.as_mut_ptr(), output.len(), &mut length, &mut changed) gives (length, changed))
+}
+
 /// Lists the rows whose number lies between two bounds, both included.
 pub fn search(file: &[u8], low: u64, high: u64, rows: &mut [u64]) -> Result<Found, Refused> {
     let (mut found, mut opened) = (0, 0);

@@ -116,6 +116,26 @@ fn a_file_is_written_read_and_compared() {
 }
 
 /// What is listed of two files in memory.
+#[test]
+fn a_file_is_renumbered_and_back() {
+    let rows: Vec<u64> = (0..2048).map(|i| i % 7 + 100).collect();
+    let (mut file, mut new, mut back) = (vec![0; 20000], vec![0; 20000], vec![0; 20000]);
+    let n = files::write(&rows, &mut file).unwrap();
+    let many = rows.iter().filter(|row| **row < 102).count();
+    let (length, changed) = files::renumber(&file[..n], &[100, 101], &[101, 100], &[1, 0], &mut new).unwrap();
+    assert_eq!(changed, many);
+    for (p, old) in rows.iter().enumerate() {
+        let wanted = if *old < 102 { 201 - old } else { *old };
+        assert_eq!(files::row_at(&new[..length], p).unwrap().value, wanted);
+    }
+    assert_eq!(files::renumber(&new[..length], &[100, 101], &[101, 100], &[1, 0], &mut back), Ok((n, many)));
+    assert_eq!(back[..n], file[..n]);
+    assert_eq!(files::renumber(&file[..n], &[100], &[101], &[0], &mut new), refused(22, 1));
+    assert_eq!(files::renumber(&file[..n], &[100, 101], &[7, 7], &[0, 1], &mut new), refused(21, 0));
+    assert_eq!(files::renumber(&file[..n], &[101, 100], &[7, 8], &[0, 1], &mut new), refused(19, 1));
+    assert_eq!(files::renumber(&file[..n], &[100], &[7], &[], &mut new), refused(18, 0));
+}
+
 fn listed(left: &[u8], right: &[u8]) -> String {
     let mut text = Vec::new();
     listing::changes(&mut Cursor::new(left), &mut Cursor::new(right), &mut text).unwrap();
