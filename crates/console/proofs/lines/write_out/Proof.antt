@@ -1,5 +1,6 @@
--- `console::lines::write_out` writes a part of the buffer.
+-- `console::lines::write_out` meets its contract: it writes a part of the buffer, and past its end nothing.
 -- Assumes nothing.
+use mathlib.Core.Bool.{false≢true}
 use mathlib.Core.Path.{sym}
 use native.Mathlib.Omega.{arith}
 use lib.Seq.{length-take-le}
@@ -17,7 +18,7 @@ returns : tie.Need-returns
 returns c = search needs
 
 returns-2 : tie.Need-returns-2
-returns-2 c = search needs
+returns-2 c e = absurd (false≢true e)
 
 pub write-out-spec : {M : Type 1} → statement M
 write-out-spec =

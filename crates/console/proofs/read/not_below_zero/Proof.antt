@@ -28,7 +28,7 @@ cast-result c =
     (yes-nonNeg {z = z} (ltZ-no {a = z} {b = pos 0} (subst (λ b. T (not b)) (sym e) tt)), record { fits = omega (arith, small c) })
 
 returns-2 : tie.Need-returns-2
-returns-2 c = search needs
+returns-2 c = small c
 
 pub not-below-zero-spec : {M : Type 1} → statement M
 not-below-zero-spec = tie.close (tie.spec returns cast-result returns-2)
