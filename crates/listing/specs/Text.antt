@@ -1,4 +1,4 @@
--- What is printed of two files (document 02, Item 12), as bytes: the lines, and the whole text.
+-- What is printed of two files (R118 to R121), as bytes: the lines, and the whole text.
 -- Assumes nothing.
 use mathlib.Core.List.{List, [], _∷_, _++_}
 use Prim.Native.Nat.{ℕ, _+_, _*_, min}
