@@ -1,6 +1,6 @@
--- What two column files differ in (R118 to R120): the places at which two blocks differ, the rows at which two files
--- do, each with both numbers, and the same rows block by block, as a program lists them that holds one block of each
--- file at a time.
+-- What two column files differ in (R118, R119, R126): the places at which two blocks differ, the rows at which two
+-- files do, each with both numbers, and the same rows block by block, as a program lists them that holds one block of
+-- each file at a time.
 -- Assumes nothing.
 use mathlib.Core.Bool.{Bool}
 use mathlib.Core.List.{List, [], _∷_, _++_, map}

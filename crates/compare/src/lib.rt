@@ -1,4 +1,4 @@
-// What two column files differ in (R118 to R120): the blocks that are in both files, and the places at which two blocks
+// What two column files differ in (R118, R126): the blocks that are in both files, and the places at which two blocks
 // differ, for a program that holds the contents and one block of each file at a time.
 use contents::FileAnswer;
 use contents::edition;
