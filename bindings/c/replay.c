@@ -3,8 +3,8 @@
  * byte of each lent buffer with what the stream expects, and prints how many cases differ. docs/CASES.md has the format, and what is
  * printed. It takes the streams that the program replay takes.
  *
- * Calls 27 to 29 ask the plain engine, which the archive does not have. By document 02's Item 8 it answers as the main one does, so
- * they are asked of that. Each output stands between guards, which no call may touch.
+ * Calls 27 to 29 ask the plain engine, which the archive does not have. By R77 it answers as the main one does, so they are asked of that.
+ * Each output stands between guards, which no call may touch.
  */
 #include "fascjoldi.h"
 #include "out.h"

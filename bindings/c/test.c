@@ -1,7 +1,7 @@
 /*
- * Calls the archive from C. What is expected comes from the documents: document 01's cases P5 to P9 and P11, a refusal for each number of
- * the table, and of document 02 the files that its items write out, each written, checked, read, searched and compared. Prints a
- * line for each thing that is not as expected, and then how many were looked at.
+ * Calls the archive from C. What is expected comes from the rules: the cases P5 to P9 and P11 (R150), a refusal for each number of the
+ * table (R143), and the worked files (R88, R123), each written, checked, read, searched and compared. Prints a line for each thing that is
+ * not as expected, and then how many were looked at.
  */
 #include "fascjoldi.h"
 #include "out.h"
@@ -30,7 +30,7 @@ static void expect_bytes(const char *what, const void *buffer, size_t count, uin
     expect(what, i, count);
 }
 
-/* The place of row r of lane l (document 01, "Places, lanes and rows"). */
+/* The place of row r of lane l (R16). */
 static size_t place_of(size_t r, size_t l)
 {
     static const uint8_t order[8] = {0, 4, 2, 6, 1, 5, 3, 7};
@@ -131,7 +131,7 @@ static void expect_refused(const char *what, size_t number, size_t expected, siz
     expect_bytes(what, out8, 1024, 77);
 }
 
-/* Numbers 1 to 7, of document 01's table. */
+/* Numbers 1 to 7 of the table (R143). */
 static void refusals(void)
 {
     size_t indices[3] = {0, 1023, 1024};
@@ -155,12 +155,12 @@ static void refusals(void)
     expect_refused("7 empty", fascjoldi_decode_u8(values8, 0, entries, 1024, out8, 1024, &place), FASCJOLDI_DICTIONARY, 0);
 }
 
-/* The worked files of document 02: one block of sevens, as a frame of width 0, in edition 1 and in edition 2. */
+/* The worked files of R88: one block of sevens, as a frame of width 0, in edition 1 and in edition 2. */
 static const uint8_t sevens1[20] = {1, 0, 1, 0, 1, 0, 0, 0, 0, 0, 0, 0, 7, 0, 0, 0, 0, 0, 0, 0};
 static const uint8_t sevens2[36] = {2, 0, 1, 0, 1, 0, 0, 0, 0, 0, 0, 0, 7, 0, 0, 0, 0, 0, 0, 0, 7, 0, 0, 0, 0, 0, 0, 0, 7, 0, 0, 0, 0, 0, 0, 0};
 static uint8_t file[8192], nine[8192], chunk_room[8192];
 
-/* Item 12's example: seven everywhere, against the same with 9 at row 3. Written, checked, read, searched, compared. */
+/* The example of R123: 7 in each row, against the same but for a 9 in row 3. Written, checked, read, searched, compared. */
 static void files(void)
 {
     size_t length = 77, found = 77, opened = 77;
@@ -396,7 +396,7 @@ static void two_blocks(void)
     file[2] = 2;
 }
 
-/* Numbers 8 to 17, of document 02's items. */
+/* Numbers 8 to 17 of the table (R143). */
 static void file_refusals(void)
 {
     size_t length = 77, width = 77, held = 77;
@@ -490,7 +490,7 @@ static void expect_list(const char *what, const uint8_t *left, size_t left_size,
     expect(what, wish, FASCJOLDI_WISH_DONE);
 }
 
-/* The machine that lists what two files differ in, on the files of Item 12's example, and on any numbers for its state. */
+/* The machine that lists what two files differ in, on the files of the example (R123), and on any numbers for its state. */
 static void lists(void)
 {
     static uint8_t output[FASCJOLDI_OUTPUT_ROOM];
@@ -562,7 +562,7 @@ static void texts(void)
     expect("behind the block", fascjoldi_summary_place_in(2048, 1), 1024);
 }
 
-/* A drawer of two blocks, and a list under a budget, beside the calls that they are made of (document 02, Items 6 and 7). */
+/* A drawer of two blocks, and a list under a budget, beside the calls that they are made of (R48, R66). */
 static void many(void)
 {
     size_t indices[3] = {0, 256, 0}, answered = 77;

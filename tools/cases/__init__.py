@@ -1,1 +1,2 @@
-"""Cases for the calls of documents 01 and 02, with what the models answer, and the case stream of docs/CASES.md."""
+"""Cases for the calls on files, drawers and trickles, with what the models answer, and the case stream of
+docs/CASES.md."""

@@ -1,4 +1,4 @@
-"""Pairs of files for the program of Item 12: a few that are deliberate, and then random ones.
+"""Pairs of files for the program changes (R118): a few that are deliberate, and then random ones.
 
 A pair is a name and the bytes of left.col and of right.col; None is a file that is not there. Each random pair has dice
 of its own, made from the seed and the pair's number. So pair 77 of a seed is the same however many are written.
@@ -28,11 +28,11 @@ def changed(values, changes):
 
 
 def worked_pairs():
-    """Item 12's own: seven everywhere, against the same with 9 at row 3; and the other way round."""
+    """The example of R123: 7 in each row against the same but for a 9 in row 3; and the other way round."""
     sevens = [7] * 1024
     nine = writer.file_of(changed(sevens, {3: 9}), 2)
-    yield Pair("Item 12's own pair", sweeps.reads.SEVENS, nine)
-    yield Pair("Item 12's own pair, exchanged", nine, sweeps.reads.SEVENS)
+    yield Pair("the pair of R123", sweeps.reads.SEVENS, nine)
+    yield Pair("the pair of R123, exchanged", nine, sweeps.reads.SEVENS)
 
 
 def pairs_of_one_row():

@@ -36,7 +36,7 @@ def by_place(number):
 
 
 def transposed(block):
-    """Document 01's value transpose: at place i the value that stood at the source of i."""
+    """The value transpose (R22): at place i the value that stood at the source of i."""
     return [block[i % 16 * 64 + ORDER[i // 16 % 8] * 8 + i // 128] for i in range(1024)]
 
 

@@ -1,6 +1,6 @@
-"""The worked examples of document 02 that are of column files and of bodies that trickle in, and a case for each of its
-numbers, for tools/edges. Each file is written out here byte by byte from document 02, and so is what its call must
-give: nothing comes from the port, and nothing from tools/models."""
+"""Worked examples of column files (R88) and of bodies that trickle in, and a case for each of their numbers, for
+tools/edges. Each file is written out here byte by byte as R79 to R84 say, and so is what its call must give: nothing
+comes from the port, and nothing from tools/models."""
 import struct
 
 MARK = 77
@@ -38,7 +38,7 @@ BLOCK = [7] * 1024
 
 
 class FileCase:
-    """A question to a call on files or a trickle, with what document 02 says of it."""
+    """A question to a call on files or a trickle, with what the rules say of it."""
 
     def __init__(self, op, name, a=b"", b=(), c=b"", left=None, number=0, place=0, value=0, **more):
         self.op, self.name, self.a, self.b, self.c = op, name, a, list(b), c
@@ -106,11 +106,11 @@ def trickle(name, width, fed, left=None, number=0, place=0, value=0, length=1024
 
 
 def cases():
-    yield check("Item 1: no blocks", NONE)
-    yield check("Item 1: one block of sevens", SEVENS)
-    yield block_out("Item 1: the block of sevens", SEVENS, 0, BLOCK)
+    yield check("R88: no blocks", NONE)
+    yield check("R88: one block of sevens", SEVENS)
+    yield block_out("R89: the block of sevens", SEVENS, 0, BLOCK)
     for p in (0, 3, 1023):
-        yield row(f"Item 1: row {p} of the sevens", SEVENS, p, 7, 0)
+        yield row(f"R97: row {p} of the sevens", SEVENS, p, 7, 0)
     yield block_out("2: an output of 1,023", SEVENS, 0, number=2, length=1023)
     yield check("8: three bytes", NONE[:3], 8)
     yield check("8: the entries cut short", SEVENS[:19], 8)
@@ -121,37 +121,37 @@ def cases():
     yield check("11: a byte left over", SEVENS + b"\0", 11)
     yield row("12: row 1,024 of one block", SEVENS, 1024, number=12)
     yield block_out("12: a block of no blocks", NONE, 0, number=12)
-    yield check("Item 1: runs in edition 1", column(1, SEVEN, RUNS))
+    yield check("R86: runs in edition 1", column(1, SEVEN, RUNS))
     yield check("13: a run index out of range", column(1, SEVEN, BAD_RUNS), 13, 1)
-    yield made(19, "Items 3 and 9: 1,024 sevens", words(BLOCK), SEVENS_2, 40)
-    yield made(19, "Items 3 and 9: no numbers", b"", NONE_2, 4)
+    yield made(19, "R88: 1,024 sevens", words(BLOCK), SEVENS_2, 40)
+    yield made(19, "R104: no numbers", b"", NONE_2, 4)
     yield made(19, "2: 1,023 numbers", words(BLOCK[1:]), b"", 40, 2)
     yield made(19, "14: an output of 35 bytes", words(BLOCK), b"", 35, 14)
-    yield check("Item 9: the sevens of edition 2", SEVENS_2)
+    yield check("R88: the sevens of edition 2", SEVENS_2)
     yield check("10: smallest above largest", column(2, (entry(1, 0, 0, 7, 8, 7), b"")), 10)
     yield check("15: another smallest value", column(2, SEVEN_2, (entry(1, 0, 0, 7, 6, 7), b"")), 15, 1)
     yield check("15: another largest value", column(2, (entry(1, 0, 0, 7, 7, 8), b"")), 15)
     three = [1024, 1025, 1026]
     steps = column(2, SEVEN_2, (entry(1, 64, 8192, 0, 0, 1023), in_rows(range(1024))))
-    yield search("Item 9: both bounds included", steps, 0, 2, three, 4)
+    yield search("R107: both bounds included", steps, 0, 2, three, 4)
     yield search("14: room for one row less", steps, 0, 2, (), 2, 14)
-    yield search("Item 9: no block is opened", SEVENS_2, 8, TOP)
-    yield search("Item 9: low above high opens nothing", SEVENS_2, 7, 6)
-    yield search("Item 9: a range that lies, not opened", column(2, (entry(1, 0, 0, 7, 6, 7), b"")), 8, 9)
+    yield search("R108: no block is opened", SEVENS_2, 8, TOP)
+    yield search("R108: low above high opens nothing", SEVENS_2, 7, 6)
+    yield search("R110: a range that lies, not opened", column(2, (entry(1, 0, 0, 7, 6, 7), b"")), 8, 9)
     yield search("15: a range that lies, opened", column(2, (entry(1, 0, 0, 7, 6, 7), b"")), 6, 6, number=15)
     yield search("13: edition 1 opens every block", column(1, SEVEN, BAD_RUNS), 1, 0, number=13, place=1)
-    yield made(21, "Item 11: the sevens of edition 1", SEVENS, SEVENS_2, 40)
-    yield made(21, "Item 11: sevens as runs", column(1, RUNS), SEVENS_2, 36)
+    yield made(21, "R112: the sevens of edition 1", SEVENS, SEVENS_2, 40)
+    yield made(21, "R112: sevens as runs", column(1, RUNS), SEVENS_2, 36)
     yield made(21, "14: an output of 35 bytes", SEVENS, b"", 35, 14)
     yield check("10: kind 3 in edition 2", column(2, SEVEN_2, RUNS_2), 10, 1)
-    yield canonical("Item 14: the sevens of edition 2", SEVENS_2)
-    yield canonical("Item 14: no blocks", NONE_2)
+    yield canonical("R117: the sevens of edition 2", SEVENS_2)
+    yield canonical("R117: no blocks", NONE_2)
     yield canonical("9: the sevens of edition 1", SEVENS, 9)
     yield canonical("17: sevens of kind 0", column(2, SEVEN_2, PLAIN_2), 17, 1)
     yield canonical("15 before 17", column(2, PLAIN_2, (entry(1, 0, 0, 7, 6, 7), b"")), 15, 1)
     yield trickle("1: width 65", 65, b"", number=1)
-    yield trickle("Item 10: width 0 is ready at once", 0, b"", [0] * 1024)
-    yield trickle("Item 10: ones at width 1", 1, b"\xff" * 130, [1] * 1024, value=128)
+    yield trickle("R72: width 0 is ready at once", 0, b"", [0] * 1024)
+    yield trickle("R71: ones at width 1", 1, b"\xff" * 130, [1] * 1024, value=128)
     yield trickle("16: 127 bytes of 128", 1, b"\xff" * 127, number=16, place=127, value=127)
     yield trickle("2: an output of 1,023", 1, b"\xff" * 128, number=2, value=128, length=1023)
 

@@ -310,7 +310,7 @@ def as_one(checks, run):
 
 
 def refusals(checks, run, bad):
-    """Every refusal has its number, its place and a sentence, on standard error; and changes prints Item 12's text
+    """Every refusal has its number, its place and a sentence, on standard error; and changes prints the line of R121
     alone on standard output."""
     for name, data in bad.items():
         answer = columns.files.check(data)

@@ -1,1 +1,2 @@
-"""A second reading of document 02, with document 01's layout: what every call gives, made from the documents alone."""
+"""A second reading of what was asked for, from the text of the requests alone: what every call on files, drawers and
+trickles gives, with the layout of blocks."""

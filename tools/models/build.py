@@ -1,7 +1,7 @@
 """Makes column files for cases: good ones, and ones in which something is wrong on purpose.
 
-A block is an entry and a body, and either may say what the other does not bear out. So every fault of Items 1 and 9
-can be made by changing one field or one byte.
+A block is an entry and a body, and either may say what the other does not bear out. So every fault that R90 refuses can
+be made by changing one field or one byte.
 """
 import struct
 from typing import NamedTuple

@@ -1,11 +1,11 @@
-"""The model of the canonical check: document 02, Item 14, from its text alone.
+"""The model of the canonical check (R115 to R117), from the text of its request alone.
 
 It says yes exactly when an edition 2 file is, byte for byte, what the writer would give for the rows that it holds.
 Else it names the lowest block whose kind, width, reference, base or body differs from the writer's. Of a file that
 the reader accepts nothing else can differ: the edition is 2, N is the number of blocks, an entry's zero is 0, its
 body length follows from kind and width, and its smallest and largest are the body's.
 
-The refusals stand in Item 14's order: those of the reader, which are those of the check of a whole file; 9 for an
+The refusals stand in the order of R116: those of the reader, which are those of the check of a whole file; 9 for an
 edition 1 file that it accepts; 17 with that block as the place.
 """
 from . import files, writer

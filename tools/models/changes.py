@@ -1,4 +1,4 @@
-"""The model of the program that says what a rename changed: document 02, Item 12, from its text alone.
+"""The model of the program that says what a rename changed (R118 to R121), from the text of its request alone.
 
 The program compares left.col with right.col and prints each row whose numbers differ, rising: the row, the number on
 the left and the number on the right, in decimal with single spaces. Then comes `differences K`. If the row counts

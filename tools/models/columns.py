@@ -1,4 +1,4 @@
-"""What the program columns (bindings/columns) is to print, from the models of document 02 and from its help.
+"""What the program columns (bindings/columns) is to print, from the models beside this one and from its help.
 
 Each function gives the text for standard output, the status, and what a complaint on standard error says behind the
 file's name, or None where there is no complaint. The layout of a line and the sentences are ours and stand here a

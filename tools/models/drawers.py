@@ -1,4 +1,4 @@
-"""The model of the calls on a drawer of blocks: document 02, Item 7, and document 01's layout, from their text alone.
+"""The model of the calls on a drawer of blocks (R66 to R68), from the text of their request and of the layout alone.
 
 A drawer is M blocks of one width that lie one after another. M is given at the call and is at most 256.
 
@@ -6,7 +6,7 @@ A drawer is M blocks of one width that lie one after another. M is given at the 
     for_pack of M blocks    takes 1,024 · M values and one reference and gives M · LANES · W packed words
 
 Block b of what is given is the single call's result on block b of what is taken, with the same reference for each. The
-refusals stand in Item 7's order: 1, the width is above T; 2, the values are not 1,024 · M, or M is above 256; 3, the
+refusals stand in the order of R68: 1, the width is above T; 2, the values are not 1,024 · M, or M is above 256; 3, the
 packed length is not M · LANES · W. The place is always 0. So M of 0 asks that both buffers are empty, and is then done.
 
 An element has T bits, and T is 8, 16, 32 or 64. Whole numbers have no end, so no product here can come round to a small

@@ -1,4 +1,4 @@
-"""The model of the reader: document 02, Items 1, 5 and 9, and what Item 11 takes away, from their text alone.
+"""The model of the reader (R78 to R90, R97, R98), from the text of its requests alone.
 
 A column file, little-endian throughout:
 
@@ -11,15 +11,15 @@ A column file, little-endian throughout:
     kind 1, frame         width 0 to 64, any reference    128·W bytes: the packed words
     kind 2, differences   width 0 to 64, reference 0      128 + 128·W bytes: sixteen base words, the packed words
     kind 3, runs          width 0, reference 0            2048 + 8·n bytes: 1,024 indices u16, n values (1 to 1,024);
-                                                          in edition 1 alone, by Item 11
+                                                          in edition 1 alone (R86)
 
-The tests stand in Item 1's own order, which is not the order of their numbers: CONTENTS_TESTS has those that look at
-the contents and the lengths, and BODY_TESTS those that look into bodies, 13 and then 15. Each of these goes through all
+The tests stand in the order of R90, which is not the order of their numbers: CONTENTS_TESTS has those that look at the
+contents and the lengths, and BODY_TESTS those that look into bodies, 13 and then 15. Each of these goes through all
 blocks before the next one begins. Before them stands 2, the length of the block output, and after them 12, a row or
 block number that is too high.
 
-By Item 5 a row lookup also says how many packed words the value's bits stand in, for blocks of kinds 0 and 1. For
-kinds 2 and 3 it gives no count, and neither does a refused call.
+By R98 a row lookup also says how many packed words the value's bits stand in, for blocks of kinds 0 and 1. For kinds 2
+and 3 it gives no count, and neither does a refused call.
 """
 import functools
 import struct
@@ -32,7 +32,7 @@ LANES = layout.lanes_of(T)
 WRAP = 2**T  # Sums and differences wrap modulo this.
 EDITIONS = (1, 2)  # that are read
 PACKED, FRAME, DIFFERENCES, RUNS = range(4)
-WITHOUT_RUNS = (2,)  # the editions in which kind 3 is not read, by Item 11
+WITHOUT_RUNS = (2,)  # the editions in which kind 3 is not read (R86)
 KINDS = ("packed", "frame", "differences", "runs")
 MOST_BLOCKS = 256
 HEAD = struct.Struct("<HH")
@@ -312,7 +312,7 @@ def words_read(entry, place):
 
 
 def check(data):
-    """Item 1's check of the whole file: never 2 and never 12."""
+    """The check of the whole file (R89): never 2 and never 12."""
     return contents_answer(data) or bodies_answer(data, range(count_of(data))) or ACCEPTED
 
 

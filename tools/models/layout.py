@@ -1,4 +1,5 @@
-"""Document 01's layout for elements of T bits, where T is 8, 16, 32 or 64, in plain whole-number arithmetic.
+"""The layout of a block of elements of T bits (R13 to R32), where T is 8, 16, 32 or 64, in plain whole-number
+arithmetic.
 
 A block has 1,024 values, in 1024 / T lanes of T rows. A lane is one whole number, the sum of its word k times 2^(T·k).
 Its digits to the base 2^W are the lane's values by rows. Nothing here shifts or masks, and nothing comes from the port.
@@ -25,7 +26,7 @@ ROW_AT = {t: {p: row for rows in PLACES[t] for row, p in enumerate(rows)} for t 
 
 
 def words_read(t, width, row):
-    """Document 02's count, Item 5: how many packed words the bits of a value in that row stand in."""
+    """The count of R39: how many packed words the bits of a value in that row stand in."""
     if width == 0:
         return 0
     return 1 if row * width % t + width <= t else 2

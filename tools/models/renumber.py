@@ -1,4 +1,4 @@
-"""The model of the renumbering, from the text of its request alone.
+"""The model of the renumbering (R132 to R135), from the text of its request alone.
 
 A renumbering takes a file that is readable and three lists of u64. Pair i is old[i] and new[i], and order has the places
 of the pairs by rising new number. A number is listed when it stands among the old numbers. A row of the new file has the

@@ -1,10 +1,10 @@
-"""The model of the rewrite: document 02, Item 11, from its text alone.
+"""The model of the rewrite (R112 to R114), from the text of its request alone.
 
 A rewrite takes any file that is readable and lays its rows down anew, as the writer does: an edition 2 file, every row
 the same, each block in the kind and at the width that the writer chooses. It says the length. What the blocks were in
 the old file plays no part, so a file that the writer wrote in edition 2 comes out as it is.
 
-The refusals stand in Item 11's order: those of the reader, which are those of the check of a whole file, then 14, an
+The refusals stand in the order of R114: those of the reader, which are those of the check of a whole file, then 14, an
 output that is shorter than the new file. The output is then unchanged; bytes past the new file stay.
 """
 from . import files, writer

@@ -1,4 +1,4 @@
-"""The model of the search: document 02, Item 9, from its text alone.
+"""The model of the search (R107 to R110), from the text of its request alone.
 
 A search lists, rising, the file rows whose value lies between two bounds, both included, and says how many they are.
 
@@ -6,9 +6,9 @@ A block is opened exactly when the range in its entry and the bounds have a numb
 bound above the high one leaves no number between them: edition 2 then opens nothing, edition 1 opens everything, and no
 row is listed. A block that is not opened gives no rows, whatever its body holds.
 
-The refusals stand in Item 9's order: 8 to 11 as the reader gives them; 13 and then 15 for the blocks that are opened,
-with the lowest of them as the place; 14 where the room is too short for the rows. The rows stand at the front of the
-room, and what is past them stays; a refused search leaves all of it.
+The refusals stand in the order of R110: 8 to 11 as the reader gives them; 13 and then 15 for the blocks that are
+opened, with the lowest of them as the place; 14 where the room is too short for the rows. The rows stand at the front
+of the room, and what is past them stays; a refused search leaves all of it.
 """
 from . import files
 from .files import Answer

@@ -1,10 +1,10 @@
-"""The model of a packed body that trickles in: document 02, Item 10, from its text alone.
+"""The model of a packed body that trickles in (R70 to R75), from the text of its request alone.
 
 A body of 64-bit elements comes in chunks of any length, for a width W that is fixed at the start. It has 128·W bytes.
 
     start       takes the width. Above 64 it is refused with 1, and the state is then that of width 0.
     feed        takes the chunk, or what the body still lacks if that is shorter, and says how many bytes it took.
-    ask         gives the 1,024 values once the whole body is there. The refusals stand in Item 10's order: 2, an output
+    ask         gives the 1,024 values once the whole body is there. The refusals stand in the order of R75: 2, an output
                 that is not 1,024 long, then 16, asked too early, with the bytes held so far as the place.
     handed_in   the state that one made by hand counts as: with a width above 64, or with more bytes held than its body
                 has, it is that of width 0.

@@ -1,4 +1,4 @@
-"""The model of the writer: document 02, Items 3 and 9, from their text alone.
+"""The model of the writer (R99 to R105), from the text of its requests alone.
 
 A block of 1,024 numbers can be laid down in three ways. Each is a candidate, at the least width that restores it:
 
@@ -14,7 +14,7 @@ packed. The tests do not rely on this: they pack at one bit less and read the bl
 In edition 2 the entry also has the smallest and the largest of the block's numbers. A body has at most 8,192 bytes, so
 with its entry a block takes at most 8,208 in edition 1 and 8,224 in edition 2.
 
-The refusals of a write stand in Item 3's order: 2, the count of the numbers, then 14, an output that is too short.
+The refusals of a write stand in the order of R105: 2, the count of the numbers, then 14, an output that is too short.
 """
 import functools
 from typing import NamedTuple

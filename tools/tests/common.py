@@ -1,7 +1,7 @@
 """What the tests share: the cases with the models' outcomes, made once for all tests, and how a check becomes a test.
 
 A check is a function that gives the things that are not so, in words. A test holds it to giving nothing. Numbers in the
-checks are worked out by hand from documents 01 and 02.
+checks are worked out by hand, by the rules.
 """
 import functools
 import unittest
@@ -72,7 +72,7 @@ def questions_of(asked):
 
 
 def expected_of(steps, way):
-    """The number and the place that the first of these steps gives, from the text of Items 1 and 9."""
+    """The number and the place that the first of these steps gives, by the table of R90."""
     named = {ENTRY_WRONG: "entry", RUNS_WRONG: "block", RANGE_WRONG: "range"}
     place = WAYS[way][named[steps[0]]] if steps and steps[0] in named else 0
     return (int(steps[0].split()[0]), place) if steps else (0, 0)

@@ -1,4 +1,4 @@
-"""Holds the model of the canonical check, and its cases, to what Item 14 says.
+"""Holds the model of the canonical check, and its cases, to what R115 to R117 say.
 
 First come files that are worked out by hand. Then every file of the cases is compared, byte for byte, with what the
 writer gives for its rows. Then the cases are looked at, and last come the checks of wrong/canonicals.py.
@@ -94,7 +94,7 @@ def numbers_reached(name, asked):
 
 
 def order_of_refusals(questions):
-    """Where several steps fail, the first in Item 14's order answers. A good file of edition 1 is 9 where it is 17."""
+    """Where several steps fail, the first in the order of R116 answers. A good file of edition 1 is 9 where it is 17."""
     asked = set(questions)
     for way in sweeps.canonicals.CANONICAL_WAYS:
         for steps in sweeps.canonicals.canonical_steps(way):

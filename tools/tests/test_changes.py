@@ -1,4 +1,4 @@
-"""Holds the model of Item 12's program, and the pairs, to what Item 12 says.
+"""Holds the model of the program changes, and the pairs, to what R118 to R121 say.
 
 First come texts that are worked out by hand. Then the pairs are looked at, and last come the programs of
 wrong/changes.py.

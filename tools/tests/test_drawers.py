@@ -1,4 +1,4 @@
-"""Holds the model of the calls on drawers, and their cases, to what Item 7 says.
+"""Holds the model of the calls on drawers, and their cases, to what R66 to R68 say.
 
 First come drawers that are worked out by hand, then every block against a packer that moves one bit at a time. Then the
 cases are looked at, and last come the calls of wrong/drawers.py.
@@ -24,7 +24,7 @@ def called(op, t, width, blocks, given, room, reference=0):
 
 
 def worked_drawers():
-    """Document 01's P6 and P8, at T 8, in drawers of two and three blocks."""
+    """The cases P6 and P8 (R150), at T 8, in drawers of two and three blocks."""
     rows = b"".join(bytes((row,)) + bytes(127) for row in range(8))  # rows of lane 0 hold 0 to 7
     words = b"".join(bytes((word,)) + bytes(127) for word in (136, 198, 250))
     for name, values, packed in (

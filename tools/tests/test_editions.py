@@ -1,4 +1,4 @@
-"""Holds the reader's model, and its cases, to what Items 9 and 11 say of edition 2.
+"""Holds the reader's model, and its cases, to what the rules say of edition 2 (R80, R82, R87).
 
 First come files that are worked out by hand. Then the sample has to find out the readers of wrong/editions.py.
 """
@@ -12,10 +12,10 @@ from .common import Checked, questions_of, sample, unless
 
 
 def worked_files():
-    """The file of no blocks and that of sevens, byte for byte; each field of the entry where Item 9 puts it."""
+    """The file of no blocks and that of sevens, byte for byte; each field of the entry where R80 puts it."""
     sevens = build.frame(0, b"", 7)
-    yield from unless(column_file([], 2) == NO_BLOCKS_2, "no blocks are not built as Item 9 has it")
-    yield from unless(column_file([sevens], 2) == SEVENS_2, "sevens are not built as Item 9 has it")
+    yield from unless(column_file([], 2) == NO_BLOCKS_2, "no blocks are not built as R88 has it")
+    yield from unless(column_file([sevens], 2) == SEVENS_2, "sevens are not built as R88 has it")
     block = build.frame(0, b"", 7).but(smallest=2**64 - 2, largest=3)
     data = bytes.fromhex("02 00 01 00  01 00 00 00  00 00 00 00  07 00 00 00 00 00 00 00")
     data += bytes.fromhex("fe ff ff ff ff ff ff ff  03 00 00 00 00 00 00 00")

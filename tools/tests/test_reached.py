@@ -6,7 +6,7 @@ from models import files
 from models.files import DIFFERENCES, FRAME, PACKED, RUNS
 from .common import OF_READER, Checked, sample, swept, thrown, unless
 
-GIVEN = {  # The numbers that each call can give, from Items 1, 3, 7, 9, 10, 11 and 14, and the renumbering's text.
+GIVEN = {  # The numbers that each call can give, as the second table of R143 has them.
     CHECK: {0, 8, 9, 10, 11, 13, 15},
     BLOCK_OUT: {0, 2, 8, 9, 10, 11, 12, 13, 15},
     ROW_LOOKUP: {0, 8, 9, 10, 11, 12, 13, 15},
@@ -22,7 +22,7 @@ GIVEN = {  # The numbers that each call can give, from Items 1, 3, 7, 9, 10, 11 
 }
 # Numbers that the sample may leave to other calls and to the sweep, since there a block takes much room.
 LEFT_TO_OTHERS = {TRICKLE_FROM: {16}, BLOCK_OUT: {8, 9, 11}}
-COUNTS = {  # The counts of words that a row lookup can give in each kind of block, from Item 5.
+COUNTS = {  # The counts of words that a row lookup can give in each kind of block (R39, R98).
     PACKED: {0, 1, 2},
     FRAME: {0, 1, 2},
     DIFFERENCES: {NO_COUNT},

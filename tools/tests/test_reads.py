@@ -1,4 +1,4 @@
-"""Holds the model of the reader to what documents 01 and 02 say: Items 1 and 5, and document 01's worked cases."""
+"""Holds the model of the reader to its rules (R88 to R90, R98), and to worked cases of R150."""
 import struct
 
 from cases import sweeps
@@ -18,10 +18,10 @@ def block_of(block):
 
 
 def worked_files():
-    """Item 1's two files: what they hold, and that building them gives the same bytes."""
+    """The two worked files of R88: what they hold, and that building them gives the same bytes."""
     sevens = build.frame(0, b"", 7)
-    yield from unless(column_file([]) == sweeps.reads.NO_BLOCKS, "the file of no blocks is not built as Item 1 has it")
-    yield from unless(column_file([sevens]) == SEVENS, "the file of sevens is not built as Item 1 has it")
+    yield from unless(column_file([]) == sweeps.reads.NO_BLOCKS, "the file of no blocks is not built as R88 has it")
+    yield from unless(column_file([sevens]) == SEVENS, "the file of sevens is not built as R88 has it")
     yield from unless(files.check(sweeps.reads.NO_BLOCKS) == files.ACCEPTED, "the file of no blocks is not accepted")
     yield from unless(files.row_lookup(sweeps.reads.NO_BLOCKS, 0)[0][:2] == (12, 0), "row 0 of no blocks is not 12")
     yield from unless(files.check(SEVENS) == files.ACCEPTED, "the file of sevens is not accepted")
@@ -48,7 +48,7 @@ def by_rows(lane, value):
 
 
 def packed_cases():
-    """Document 01's P4, P6 and P7, brought to 64 bits.
+    """The cases P4, P6 and P7 (R150), brought to 64 bits.
 
     P6 has 0 to 7 by rows at width 3, which is the bytes 136, 198, 250. With 64 rows that comes eight times over, and
     lane 0 has its three words at 0, 16 and 32. At width 6 a row can hold its own number.
@@ -126,7 +126,7 @@ def words_by_packing(width, first):
 
 
 def counts_of_words():
-    """Item 5's count is the number of words that the bits stand in, at every width and row."""
+    """The count of R39 is the number of words that the bits stand in, at every width and row."""
     for width in range(65):
         packed = [found for first in (0, 16, 32, 48) for found in words_by_packing(width, first)]
         for row in range(64):
@@ -163,7 +163,7 @@ def every_set_of_steps():
 
 
 def order_of_refusals(asked):
-    """Where several steps fail, the first in Item 1's order answers; and without that one, the next."""
+    """Where several steps fail, the first in the order of R90 answers; and without that one, the next."""
     pairs = set()
     for op, way, steps in every_set_of_steps():
         question = sweeps.reads.faulty_question(op, steps, way)

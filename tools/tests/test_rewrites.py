@@ -1,4 +1,4 @@
-"""Holds the model of the rewrite, and its cases, to what Item 11 says.
+"""Holds the model of the rewrite, and its cases, to what R112 to R114 say.
 
 First come rewrites that are worked out by hand. Then everything that the sweep rewrites is read back, written once more
 and rewritten once more. Then the cases are looked at, and last come the rewrites of wrong/rewrites.py.
@@ -119,7 +119,7 @@ def numbers_reached(name, asked):
 
 
 def order_of_refusals(swept):
-    """Where several steps fail, the first in Item 11's order answers, and the sweep asks for every two."""
+    """Where several steps fail, the first in the order of R114 answers, and the sweep asks for every two."""
     asked = set(swept)
     for way in sweeps.rewrites.REWRITE_WAYS:
         for steps in sweeps.rewrites.rewrite_steps(way):

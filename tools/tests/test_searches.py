@@ -1,4 +1,4 @@
-"""Holds the model of the search, and its cases, to what Item 9 says.
+"""Holds the model of the search, and its cases, to what R107 to R110 say.
 
 First come searches that are worked out by hand. Then every search of the sweep is made once more without skipping, row
 by row through the reader, which has to list the same rows where the full check accepts the file. Then the cases are
@@ -153,7 +153,7 @@ def numbers_reached(name, asked):
 
 
 def order_of_refusals(swept):
-    """Where several steps fail, the first in Item 9's order answers, and the sweep asks for every two."""
+    """Where several steps fail, the first in the order of R110 answers, and the sweep asks for every two."""
     asked, pairs = set(swept), set()
     for way in sweeps.searches.SEARCH_WAYS:
         for steps in sweeps.searches.search_steps(way):

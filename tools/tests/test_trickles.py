@@ -1,4 +1,4 @@
-"""Holds the model of trickles, and their cases, to what Item 10 says.
+"""Holds the model of trickles, and their cases, to what R70 to R75 say.
 
 First come trickles that are worked out by hand. Then bodies are cut in many ways, which makes no difference, and asked
 for at every byte. Then the cases are looked at, and last come the trickles of wrong/trickles.py.

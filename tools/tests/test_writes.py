@@ -1,4 +1,4 @@
-"""Holds the model of the writer, and the cases of writes, to what Items 3 and 9 say.
+"""Holds the model of the writer, and the cases of writes, to what R99 to R105 say.
 
 First come files that are worked out by hand. Then everything that the sweep writes is read back, and every body that
 would be preferred is tried and has to fail. Last come the writers of wrong/writers.py.
@@ -30,7 +30,7 @@ def falling_number():
 
 
 ONES_FROM_ROW_1 = (2**64 - 2).to_bytes(8, "little")  # at width 1
-P6 = bytes((136, 198, 250)) * 8  # document 01's 0 to 7 by rows at width 3, eight times over
+P6 = bytes((136, 198, 250)) * 8  # the words of P6 (R150), 0 to 7 by rows at width 3, eight times over
 ONES_IN_ODD_LANES = build.words([0, TOP] * 8)  # at width 1
 FOUR_BASES = build.words([4, 5, 6, 7] * 4)
 

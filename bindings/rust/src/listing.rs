@@ -1,5 +1,5 @@
-//! What two column files differ in, as lines of text (document 02, Item 12). A proved machine says what is to be read of the files and what
-//! is to be written, one wish after another; here the wishes are granted, with no more of a file in memory than its contents and one body.
+//! What two column files differ in, as lines of text (R118 to R121). A proved machine says what is to be read of the files and what is to
+//! be written, one wish after another; here the wishes are granted, with no more of a file in memory than its contents and one body.
 use crate::sys;
 use std::io::{Error, ErrorKind, Read, Result, Seek, SeekFrom, Write};
 

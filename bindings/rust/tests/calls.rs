@@ -1,11 +1,11 @@
-//! The calls from Rust. What is expected comes from the documents: document 01's cases P6 to P9, refusals, and the files that
-//! document 02 writes out.
+//! The calls from Rust. What is expected comes from the rules: the cases P6 to P9 (R150), refusals, and the worked files
+//! (R88, R123).
 use fascjoldi::chunks::Body;
 use fascjoldi::text::{self, NoNumber};
 use fascjoldi::{files, listing, Blocks, Refused};
 use std::io::Cursor;
 
-/// The place of row r of lane l (document 01, "Places, lanes and rows").
+/// The place of row r of lane l (R16).
 fn place(r: usize, l: usize) -> usize {
     [0, 4, 2, 6, 1, 5, 3, 7][r / 8] * 16 + r % 8 * 128 + l
 }

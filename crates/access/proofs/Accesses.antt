@@ -1,6 +1,5 @@
--- The sentences of document 01, "The packed layout", about access, over the element size and the width: single access
--- as unpack at its place, and list access as single access entry by entry. Each law speaks of what the calls give and
--- leave.
+-- The laws of access, over the element size and the width: single access as unpack at its place (R37), and list access
+-- as single access entry by entry (R45). Each law speaks of what the calls give and leave.
 -- Assumes nothing.
 use mathlib.Core.Path.{_≡_, refl, sym, ap, ap₂, _∙_}
 use mathlib.Core.List.{List}

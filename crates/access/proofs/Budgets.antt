@@ -1,4 +1,4 @@
--- The laws of access by a list under a budget (document 02, Item 6).
+-- The laws of access by a list under a budget (R46 to R48).
 -- Assumes nothing.
 use mathlib.Core.Bool.{Bool, true, false}
 use mathlib.Core.List.{List}

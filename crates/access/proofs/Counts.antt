@@ -1,5 +1,5 @@
--- The laws of counts (document 02, Item 5): the words that hold a bit of a row are as many as its count says; and of
--- sums of counts.
+-- The laws of counts (R39): the words that hold a bit of a row are as many as its count says. And those of sums of
+-- counts (R43).
 -- Assumes nothing.
 use mathlib.Core.Bool.{Bool, true, false}
 use mathlib.Core.List.{List, [], _∷_, _++_}

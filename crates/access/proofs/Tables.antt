@@ -1,7 +1,7 @@
 -- The tables of lanes and rows as they stand in src/, at T 64 and at T 32: each is compared with its rule once, at all
--- 1,024 places, by computation, and the inverse rule of document 01 is said of them. tools/sizes writes the entries
--- from the place formula. The proofs of the functions that read a table take it from here, so they refuse an entry of
--- src/ that is another.
+-- 1,024 places, by computation, and it is said of them that the place formula takes lane and row back to the place
+-- (R18, R159). tools/sizes writes the entries from the place formula. The proofs of the functions that read a table
+-- take it from here, so they refuse an entry of src/ that is another.
 -- Assumes nothing.
 use mathlib.Core.List.{List, [], _∷_}
 use mathlib.Core.Path.{_≡_, refl, ap₂, _∙_}

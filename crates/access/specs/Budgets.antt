@@ -1,5 +1,5 @@
--- Access by a list under a budget of words (document 02, Item 6): how many of its lookups are answered, what it gives,
--- and what it leaves in its output.
+-- Access by a list under a budget of words (R46, R47): how many of its lookups are answered, what it gives, and what it
+-- leaves in its output.
 -- Assumes nothing.
 use mathlib.Core.Bool.{Bool}
 use mathlib.Core.List.{List}

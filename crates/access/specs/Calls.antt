@@ -1,6 +1,5 @@
 -- What access to one place and access by a list take and give, and what the second leaves in its output, for every
--- input (document 01, "The packed layout" and "Numbers given back"; document 02, Item 5). What a call answers is
--- `answerFor` what it takes.
+-- input (R37 to R45). What a call answers is `answerFor` what it takes.
 -- Assumes nothing.
 use mathlib.Core.List.{List, [], _∷_}
 use Prim.Native.Nat.{ℕ}

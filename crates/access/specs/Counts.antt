@@ -1,4 +1,4 @@
--- How many packed words a lookup reads (document 02, Item 5), for one place and for a list of places.
+-- How many packed words a lookup reads, for one place (R39, R41) and for a list of places (R43).
 -- Assumes nothing.
 use mathlib.Core.List.{List, [], _∷_}
 use mathlib.Core.Path.{_≡_}

@@ -17,8 +17,7 @@ ghost use Rattle.access.specs.Calls.{answerOf, wordsOf};
 ghost use Rattle.access.specs.InnerCounts.{firsts};
 ghost use Rattle.access.specs.InnerEntries.{atEntry};
 
-// A number of packed words: how many the bits of a value stand in, or the sum of these over a list (document 02, Item
-// 5).
+// A number of packed words: how many the bits of a value stand in, or the sum of these over a list (R39, R43).
 pub type Words = u64;
 
 // What stands for a count where there is none.

@@ -1,5 +1,5 @@
--- The count of the plain engine, which looks at the word of each bit, is Item 5's count. Over the element size and the
--- width.
+-- The count of the plain engine, which looks at the word of each bit, is the count of R39. Over the element size and
+-- the width.
 -- Assumes nothing.
 use mathlib.Core.Path.{_≡_, sym, ap, _∙_}
 use Prim.Native.Nat.{ℕ, zero, suc, _+_, _-_, _*_, _/_, _%_, _≤_, _<_}
@@ -58,7 +58,7 @@ module _ {t : ℕ} (s : Size t) (w r : ℕ) where
   words-from zero = add-comm 1 (r * w / t) ∙ ap (λ x. x / t + 1) (sym (add-zero (r * w)))
   words-from (suc n) = omega (arith, words-from n, new-word n)
 
-  -- The bits of a row come from as many words as Item 5 says.
+  -- The bits of a row come from as many words as R39 says.
   pub words-agree : w ≤ t → wordsFor t w r w ≡ wordsRead t w r
   unfolding wordsFor Span
   words-agree h =

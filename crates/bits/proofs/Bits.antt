@@ -1,5 +1,5 @@
--- What the two bit transposes promise, in document 01's words: where each bit goes, that this fixes the block, that
--- each undoes the other, and that at size 64 the bits move as values do under the value transpose. And the 8 by 8 step.
+-- What the two bit transposes promise (R63, R64): where each bit goes, that this fixes the block, that each undoes the
+-- other, and that at size 64 the bits move as values do under the value transpose. And the 8 by 8 step (R65).
 -- Assumes nothing.
 use mathlib.Core.Path.{_≡_, refl, sym, ap, ap₂, _∙_, subst}
 use mathlib.Core.List.{List}

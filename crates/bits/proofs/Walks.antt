@@ -1,5 +1,5 @@
--- The walks of the two calls move each bit where document 01 says. A law of all 1,024 bits is a test that is computed
--- at each of them.
+-- The walks of the two calls move each bit where R63 and R64 say. A law of all 1,024 bits is a test that is computed at
+-- each of them.
 -- Assumes nothing.
 use mathlib.Core.Path.{_≡_}
 use mathlib.Core.List.{List}

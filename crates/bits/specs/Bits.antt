@@ -1,4 +1,4 @@
--- The bits of a block of sixteen u64 numbers, and where the two bit transposes move each of them (document 01, "Bits").
+-- The bits of a block of sixteen u64 numbers, and where the two bit transposes move each of them (R62 to R64).
 -- Assumes nothing.
 use mathlib.Core.List.{List}
 use mathlib.Core.Path.{_≡_}

@@ -1,6 +1,6 @@
--- One body of a column file and the block that it stands for (document 02, Item 1), by its entry: kind 0 is packed,
--- kind 1 a frame, kind 2 sixteen base words and packed differences, kind 3 run indices and run values. Then what is
--- tested of a body.
+-- One body of a column file and the block that it stands for (R84), by its entry: kind 0 is packed, kind 1 a frame,
+-- kind 2 sixteen base words and packed differences, kind 3 run indices and run values. Then what is tested of a body
+-- (R92).
 -- Assumes nothing.
 use mathlib.Core.Bool.{Bool, true}
 use mathlib.Core.List.{List, [], _∷_}

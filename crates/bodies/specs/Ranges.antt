@@ -1,4 +1,4 @@
--- The smallest and the largest value of a block (document 02, Item 9).
+-- The smallest and the largest value of a block (R87, R92).
 -- Assumes nothing.
 use mathlib.Core.Bool.{Bool}
 use mathlib.Core.List.{List}

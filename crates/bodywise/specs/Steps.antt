@@ -1,8 +1,8 @@
--- The check of a file body by body (document 02, Items 1, 9, 11 and 12), for a program that holds the contents of the
--- file and one body at a time: what is tested of one body and of its block, and what the answer so far becomes with the
--- next body. Kind 3, the only one with run indices, is taken in edition 1 alone, and a range is said in edition 2
--- alone: so no file has both a run index out of range and a range that is not the true one, and the first refusal in
--- the order of the bodies is the answer to the file.
+-- The check of a file body by body (R95), for a program that holds the contents of the file and one body at a time:
+-- what is tested of one body and of its block, and what the answer so far becomes with the next body. Kind 3, the only
+-- one with run indices, is taken in edition 1 alone, and a range is said in edition 2 alone: so no file has both a run
+-- index out of range and a range that is not the true one (D11), and the first refusal in the order of the bodies is
+-- the answer to the file.
 --
 -- `front` is the front of the file, which has the contents.
 -- Assumes nothing.
@@ -36,8 +36,8 @@ hasTrueRange front i block = pick (eqb (editionOr front) 2) (isRange (rangeOr fr
 abbrev pub rangeTest : (front : List ℕ) (i : ℕ) (block : List ℕ) → FileTest
 rangeTest front i block = (hasTrueRange front i block, Range i)
 
--- The tests of body i are, in the order of Item 1, that of its entry, whether the body is as long as the entry says,
--- and that of the run indices.
+-- The tests of body i are, in this order, that of its entry, whether the body is as long as the entry says, and that of
+-- the run indices.
 abbrev pub bodyTests : (front : List ℕ) (i : ℕ) (body : List ℕ) → List FileTest
 bodyTests front i body =
     entryTest front i

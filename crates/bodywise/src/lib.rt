@@ -1,7 +1,6 @@
-// The walk over the bodies of a column file (document 02, Items 1, 9 and 12), for a program that holds the contents and
-// one body at a time: a cursor that says which body comes next and where it begins, how many bytes of a file are its
-// front, and the check of the file body by body. The front is the first bytes of the file, with the contents; the whole
-// file is its own front.
+// The walk over the bodies of a column file (R94, R95), for a program that holds the contents and one body at a time: a
+// cursor that says which body comes next and where it begins, how many bytes of a file are its front, and the check of
+// the file body by body. The front is the first bytes of the file, with the contents; the whole file is its own front.
 use contents::Entry;
 use contents::FileAnswer;
 use contents::contents_length;

@@ -1,6 +1,6 @@
--- Document 02, Item 3, of one block: in each kind a width restores the block exactly when it is at least the least one,
--- so the reader makes the block of the chosen candidate; and no entry and body of the kind that was chosen, with its
--- reference or base, give the block at a smaller width. That no candidate is shorter stands in Choice.
+-- What R100 and R102 say of one block: in each kind a width restores the block exactly when it is at least the least
+-- one, so the reader makes the block of the chosen candidate; and no entry and body of the kind that was chosen, with
+-- its reference or base, give the block at a smaller width. That no candidate is shorter stands in Choice.
 -- Assumes nothing.
 use mathlib.Core.List.{List, [], _++_, append-nil}
 use mathlib.Core.Logic.{_↔_}

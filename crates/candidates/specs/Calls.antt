@@ -1,5 +1,5 @@
--- What the calls on one block answer and leave (document 02, Items 3 and 9): the entry that the writer gives a block,
--- its smallest and largest number, and the body written; in one call, or measured first and laid down later.
+-- What the calls on one block answer and leave (R106): the entry that the writer gives a block, its smallest and
+-- largest number, and the body written; in one call, or measured first and laid down later.
 -- Assumes nothing.
 use mathlib.Core.Bool.{Bool}
 use mathlib.Core.List.{List, [], _∷_}
@@ -58,23 +58,26 @@ rangeLaid (Refused a) = anyRange
 
 -- ---- measured first, and laid down later
 
--- Of a block of 1,024 numbers this is measured: the entry that the writer gives it, its range, and the width of its
--- differences. Another list has no entry, and no range either.
+-- This is what is measured of a block of 1,024 numbers: the entry that the writer gives it, its range, and the width of
+-- its differences. For a list of another length an entry of no kind is given, the range of every number, and the width
+-- 0.
 unfoldable pub measuredOf : (values : List ℕ) → Measured
 measuredOf values =
     pick (long 1024 values) (record { entry = chosen values .entry; range = trueRange values; steps = widthOf (differences values) })
     (record { entry = noEntry; range = anyRange; steps = 0 })
 
--- By a range and a width of the differences this is the entry that is chosen; no width is above 64.
+-- This is the entry that is chosen for a block of this range whose differences have the width `steps`. Where `steps` is
+-- above 64, which is no width, there is no entry.
 unfoldable pub entryWith : (range : Range) (steps : ℕ) → Entry
 entryWith range steps = pick (leb steps 64) (entryBy (widthsBy range steps)) noEntry
 
--- The candidates are laid down in three rooms, for 1,024 words, 1,024 words and 1,040 words, and no width is above 64.
+-- This test says that the three candidates can be laid down: the rooms for them have 1,024 words, 1,024 words and 1,040
+-- words, and the width of the differences is at most 64.
 abbrev pub isReady : (steps : ℕ) (plain frame rest : List ℕ) → Bool
 isReady steps plain frame rest = both (both (long 1024 plain) (long 1024 frame)) (both (long 1040 rest) (leb steps 64))
 
--- Laying a block down by a range and a width of its differences takes 1,024 numbers, the rooms, and an output with room
--- for the shortest body.
+-- Laying a block down by a range and a width of its differences takes 1,024 numbers, rooms and a width that pass this
+-- test, and an output with room for the shortest body.
 abbrev pub byTests : (range : Range) (steps : ℕ) (values plain frame rest output : List ℕ) → List FileTest
 byTests range steps values plain frame rest output =
     (long 1024 values, Block)

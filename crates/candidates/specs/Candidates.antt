@@ -1,5 +1,5 @@
--- What the writer lays down for a block of 1,024 numbers (document 02, Item 3): three candidates, each at the least
--- width that restores the block, and the one of them that is chosen.
+-- What the writer lays down for a block of 1,024 numbers (R100, R101): three candidates, each at the least width that
+-- restores the block, and the one of them that is chosen.
 -- Assumes nothing.
 use mathlib.Core.List.{List, _++_}
 use Prim.Native.Nat.{ℕ}

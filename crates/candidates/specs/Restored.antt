@@ -1,5 +1,5 @@
--- What the reader makes of a candidate (document 02, Items 1 and 3), and the candidate of a kind at any width. With
--- these a law says that the chosen width restores the block, and that no smaller one does.
+-- What the reader makes of a candidate (R84), and the candidate of a kind at any width. With these a law says that the
+-- chosen width restores the block, and that no smaller one does (R102).
 -- Assumes nothing.
 use mathlib.Core.List.{List}
 use Prim.Native.Nat.{ℕ}

@@ -1,5 +1,5 @@
--- The least width that holds a number, and that holds every number of a list (document 02, Item 3). The highest number
--- of a list stands in runs, and the lowest in bodies.
+-- How many bits a number needs, and how many the numbers of a list need. A width w holds the numbers below 2^w. By the
+-- least width that holds them the writer takes the narrowest candidate of each kind (R100).
 -- Assumes nothing.
 use mathlib.Core.List.{List}
 use Prim.Native.Nat.{ℕ, _^_}

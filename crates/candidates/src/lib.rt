@@ -1,11 +1,11 @@
-// What the writer lays down for one block (document 02, Item 3). There are three candidates: the packed block, the
-// frame over its lowest number, and the differences from row to row, with each lane's number in row 0 as base. Each is
-// at the least width that restores the block. The shortest is chosen, and of two that are equally long the one of the
-// lower kind.
+// What the writer lays down for one block (R100, R101). There are three candidates: the packed block, the frame over
+// its lowest number, and the differences from row to row, with each lane's number in row 0 as base. Each is at the
+// least width that restores the block. The shortest is chosen, and of two that are equally long the one of the lower
+// kind.
 //
 // A body is a list of words until it is chosen, and the chosen one alone becomes bytes. A program that has to know how
-// long all bodies are before it lays one down measures each block first, and keeps of it the range and the width of the
-// differences: with these the block is laid down without being measured again.
+// long all bodies are before it lays one down measures each block first (R106), and keeps of it the range and the width
+// of the differences: with these the block is laid down without being measured again.
 mod differences;
 
 use bodies::range_of;

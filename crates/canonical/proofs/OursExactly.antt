@@ -1,5 +1,5 @@
--- The theorems on the check of a file that another program wrote (document 02, Item 14): it says yes exactly when the
--- file's bytes are those that the writer gives for its rows, and else names the lowest block that differs.
+-- The theorems on the check of a file that another program wrote (R115 to R117): it says yes exactly when the file's
+-- bytes are those that the writer gives for its rows, and else names the lowest block that differs.
 -- Assumes nothing.
 use mathlib.Core.Bool.{true}
 use mathlib.Core.List.{List}

@@ -1,5 +1,5 @@
--- The check of a file that another program wrote (document 02, Item 14): whether it is, byte for byte, what our writer
--- would give for the rows that it holds. `l` is the file, a list of bytes.
+-- The check of a file that another program wrote (R115, R116): whether it is, byte for byte, what our writer would give
+-- for the rows that it holds. `l` is the file, a list of bytes.
 -- Assumes nothing.
 use mathlib.Core.Bool.{Bool, true, false}
 use mathlib.Core.List.{List, [], _∷_, _++_}

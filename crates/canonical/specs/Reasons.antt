@@ -1,5 +1,5 @@
--- When each number of Item 14 is given, said a second time: in plain arithmetic, in the order of the document. It
--- guards the tests in Canonical: that a file gets an answer exactly when it has the reason for it here is a theorem.
+-- When each number of R116 is given, said a second time: in plain arithmetic, in the order of that rule. It guards the
+-- tests in Canonical: that a file gets an answer exactly when it has the reason for it here is a theorem.
 -- Assumes nothing.
 use mathlib.Core.List.{List}
 use mathlib.Core.Logic.{_≢_}

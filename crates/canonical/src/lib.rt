@@ -1,9 +1,9 @@
 // Whether a column file that another program wrote is, byte for byte, what our writer would give for the rows that it
-// holds (document 02, Item 14). The reader's check up to the run indices comes first. Then each block is laid down once,
-// in room for one block, and what the writer would measure of it is held to its entry: the range, which is the last of
-// the reader's tests, and kind, width, length and reference. Nothing is packed again. Unpacking and packing at one width
-// restores every word, so a body whose entry is the writer's is the writer's body; of a body of differences the base is
-// looked at as well.
+// holds (R115). The reader's check up to the run indices comes first. Then each block is laid down once, in room for
+// one block, and what the writer would measure of it is held to its entry: the range, which is the last of the reader's
+// tests, and kind, width, length and reference. Nothing is packed again. Unpacking and packing at one width restores
+// every word, so a body whose entry is the writer's is the writer's body; of a body of differences the base is looked
+// at as well.
 use candidates::measure;
 use contents::Entry;
 use contents::FileAnswer;

@@ -1,7 +1,7 @@
-// Says what differs between two column files (document 02, Item 12): compares left.col with right.col in the folder
-// where it is run, and writes to standard output a line for each row whose numbers differ, `row left right`, rising;
-// then `rows A B` where the row counts differ; and then `differences K`. Both files are checked before anything is
-// listed, and the first bad one, left before right, gives the only line, `refused left X Y` or `refused right X Y`.
+// Says what differs between two column files (R118 to R121): compares left.col with right.col in the folder where it is
+// run, and writes to standard output a line for each row whose numbers differ, `row left right`, rising; then
+// `rows A B` where the row counts differ; and then `differences K`. Both files are checked before anything is listed,
+// and the first bad one, left before right, gives the only line, `refused left X Y` or `refused right X Y`.
 //
 // What is read and what is written, and in which order, the machine of the crate listing says; here its wishes are
 // granted one after another. This is to be read beside `granted` and `runsBy` in the definitions of the crate wishes,

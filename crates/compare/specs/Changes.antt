@@ -1,4 +1,4 @@
--- What two column files differ in (document 02, Item 12): the places at which two blocks differ, the rows at which two
+-- What two column files differ in (R118, R119, R126): the places at which two blocks differ, the rows at which two
 -- files do, each with both numbers, and the same rows block by block, as a program lists them that holds one block of
 -- each file at a time.
 -- Assumes nothing.

@@ -1,4 +1,4 @@
--- Whether two files say the same of a block (document 02, Item 12).
+-- Whether two files say the same range of a block (R126).
 -- Assumes nothing.
 use mathlib.Core.Bool.{Bool}
 use mathlib.Core.List.{List}
@@ -7,7 +7,7 @@ use lib.Dec.{eqb}
 use Rattle.lists.specs.Pick.{both}
 use Rattle.contents.specs.Contents.{editionOr, rangeOr}
 
--- This test says that two files say the same of the range of block i.
+-- This test says that two files have one edition and say one range of block i. `left` and `right` are their fronts.
 unfoldable pub sameRange : (left right : List ℕ) (i : ℕ) → Bool
 sameRange left right i =
     both (eqb (editionOr left) (editionOr right))

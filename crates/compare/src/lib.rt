@@ -1,5 +1,5 @@
-// What two column files differ in (document 02, Item 12): the blocks that are in both files, and the places at which
-// two blocks differ, for a program that holds the contents and one block of each file at a time.
+// What two column files differ in (R118, R126): the blocks that are in both files, and the places at which two blocks
+// differ, for a program that holds the contents and one block of each file at a time.
 use contents::FileAnswer;
 use contents::edition;
 use contents::range_or;

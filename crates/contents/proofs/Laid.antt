@@ -74,7 +74,7 @@ module _ (e : Entry) (good : isLaidOut e ≡ true) where
       go false false false true p q r s h = omega (arith, eqb-true (e .kind) 3 s)
       go false false false false p q r s h = absurd (false-true h)
 
--- ---- the tests say what the document says
+-- ---- the tests say what R81 and R82 say
 
 -- a test and what it stands for
 eqb-is : (a b : ℕ) → (eqb a b ≡ true) ↔ (a ≡ b)

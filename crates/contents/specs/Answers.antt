@@ -1,6 +1,6 @@
--- What a call on a column file answers: document 02's numbers and places, the answer by a list of tests, and what a
--- call leaves in a lent buffer. The tests of each call (Items 1, 3, 9, 11 and 14, "Refusals, in order") stand beside
--- it, in the order of its item, which is not that of the numbers.
+-- What a call on a column file answers: the numbers and places (R143, R163), the answer by a list of tests, and what a
+-- call leaves in a lent buffer (R4). The tests of each call stand beside it, in the order that its rule says, as R90
+-- does for the reader; that is not the order of the numbers (R5).
 -- Assumes nothing.
 use mathlib.Core.Bool.{Bool}
 use mathlib.Core.List.{List}

@@ -1,5 +1,4 @@
--- The contents of a column file as bytes, and what writing them leaves (document 02, Items 1, 3 and 9): the writer
--- writes edition 2.
+-- The contents of a column file as bytes (R79, R80), and what writing them leaves (R106): the writer writes edition 2.
 -- Assumes nothing.
 use mathlib.Core.List.{List, [], _∷_, _++_}
 use Prim.Native.Nat.{ℕ, _+_}

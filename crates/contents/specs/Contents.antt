@@ -1,6 +1,6 @@
--- The contents of a column file (document 02, Items 1, 9 and 11): edition, block count, and an entry for each block, in
--- edition 2 with the block's smallest and largest value. Then when an entry is right, where each body stands, and what
--- is tested of the contents.
+-- The contents of a column file (R79 to R82): edition, block count, and an entry for each block, in edition 2 with the
+-- block's smallest and largest value. Then when an entry is right, where each body stands (R83), and what is tested of
+-- the contents (R91).
 --
 -- `l` is the front of a file, of which the contents are the first bytes; the whole file is its own front.
 -- Assumes nothing.

@@ -1,5 +1,5 @@
 -- An entry that is as laid out, and the kinds that an edition takes, said a second time: in plain arithmetic, kind by
--- kind, as document 02's Items 1 and 11 have it. It guards the tests in Contents; that the two agree is a law.
+-- kind, as R81 and R82 have it. It guards the tests in Contents; that the two agree is a law.
 -- Assumes nothing.
 use mathlib.Core.Logic.{_⊎_}
 use mathlib.Core.Path.{_≡_}

@@ -1,7 +1,7 @@
-// The contents of a column file (document 02, Items 1, 9 and 11): edition, block count, and an entry for each block, in
-// edition 2 with the block's smallest and largest value. Here they are read and tested against the file's length, and
-// nothing else of the file is needed for that: a program that holds no more than the front of a file can ask here
-// whether the file's contents are right. The calls that begin with put write them, as edition 2.
+// The contents of a column file (R79 to R82): edition, block count, and an entry for each block, in edition 2 with the
+// block's smallest and largest value. Here they are read and tested against the file's length, and nothing else of the
+// file is needed for that: a program that holds no more than the front of a file can ask here whether the file's
+// contents are right (R91). The calls that begin with put write them, as edition 2 (R106).
 //
 // FileAnswer, what every call on a column file answers, stands here too.
 use little::pair;

@@ -1,6 +1,6 @@
--- Why transposing helps the dates (document 02, Item 13): the proofs. The page at the head of specs/Dates.antt tells
--- what the theorems mean. What is said of a rule over all rows and lanes, or over all places, is a test that is
--- computed at each of them.
+-- Why transposing helps the dates (R25 to R27): the proofs. The page at the head of specs/Dates.antt tells what the
+-- theorems mean. What is said of a rule over all rows and lanes, or over all places, is a test that is computed at each
+-- of them.
 -- Assumes nothing.
 use mathlib.Core.List.{List}
 use mathlib.Core.Path.{_≡_, refl, sym, ap, ap₂, _∙_, subst, subst₂}

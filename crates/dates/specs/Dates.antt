@@ -1,5 +1,5 @@
--- Why transposing helps the dates (document 02, Item 13). This page is for people who know dates and not proofs. The
--- statements below it are proved in proofs/Dates.antt, by theorems whose names are given here.
+-- Why transposing helps the dates (R25 to R27). This page is for people who know dates and not proofs. The statements
+-- below it are proved in proofs/Dates.antt, by theorems whose names are given here.
 --
 -- A block has 1,024 dates. Date i is the one that was written as number i, counted from 0: that is a logical value, and
 -- date i - 1 is the logical value just before it. Dates that follow one another lie close together, so the difference
@@ -59,7 +59,7 @@ use Rattle.places.specs.Takes.{answerFor}
 use Rattle.places.specs.Transposes.{transposeTakes, transposeLeaves}
 use Rattle.deltas.specs.Calls.{deltaTakes, deltaLeaves}
 
--- The source of row r in lane l equals the source of place l, plus r.
+-- The place of row r in lane l has a source that is r more than that of place l (R25).
 abbrev pub RowSources : Type 0
 RowSources = (t : ℕ) → Size t → (r l : ℕ) → r < t → l < lanes t → source (place r l) ≡ source l + r
 
@@ -89,8 +89,7 @@ BothDone =
     (t : ℕ) → Size t → (x : Lent t)
     → (answerFor (transposeTakes (x .dates) (x .between)) ≡ Done) × (answerFor (deltaTakes t (transposedOf x) (x .base) (x .output)) ≡ Done)
 
--- From row 1 on, delta on a transposed block stores one logical value minus the logical value just before it, modulo
--- 2^t.
+-- From row 1 on delta stores of a transposed block each logical value less the one right before it, modulo 2^t (R26).
 abbrev pub Neighbours : Type 0
 Neighbours =
     (t : ℕ) → Size t → (x : Lent t) (r l : ℕ) → 1 ≤ r → r < t → l < lanes t

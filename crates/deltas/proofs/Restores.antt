@@ -1,15 +1,16 @@
--- Demand 3, the laws of differences and references, over every element size t and every width w from 0 to t. The demand
--- says, in our words:
+-- The laws of differences and frames (R144 to R149), over every element size t and every width w from 0 to t:
 --
---   1. delta and then undelta with one base, and undelta and then delta with one base, give the block back.
---   2. delta and undelta are additive, where blocks and bases are summed place by place modulo 2^t.
---   3. undelta_pack is unpack, and then undelta.
---   4. unfor_pack is unpack, and then adding the reference.
---   5. for_pack and then unfor_pack with one reference restores a place exactly when its value minus the reference, modulo 2^t, is below 2^w.
---   6. delta, pack and undelta_pack with one base restore a block exactly when each of its 1,024 differences is below 2^w.
+--   1. delta and then undelta with one base, and undelta and then delta with one base, give the block back (R145).
+--   2. delta and undelta are additive, where blocks and bases are summed place by place modulo 2^t (R146).
+--   3. undelta_pack is unpack, and then undelta (R147).
+--   4. unfor_pack is unpack, and then adding the reference (R147).
+--   5. for_pack and then unfor_pack with one reference restores a place exactly when its value minus the reference,
+--      modulo 2^t, is below 2^w (R148).
+--   6. delta, pack and undelta_pack with one base restore a block exactly when each of its 1,024 differences is below
+--      2^w (R149).
 --
--- Each sentence stands here twice: over the definitions that the contracts cite, and as what the calls leave in the
--- buffers lent to them.
+-- Each law stands here twice: over the definitions that the contracts cite, and as what the calls leave in the buffers
+-- lent to them.
 -- Assumes nothing.
 use mathlib.Core.Path.{_≡_, sym, ap, ap₂, _∙_, subst}
 use mathlib.Core.List.{List}
@@ -133,8 +134,8 @@ module _ {t : ℕ} (s : Size t) (w : ℕ) (hw : w ≤ t) where
         (λ small. sums ∙ ap (λ x. undeltaOf t x b) (round .1 small) ∙ undelta-delta s v b e fv fb),
       )
 
--- ---- as what the calls leave. The lengths are those that the calls ask for; o, o′, o″ and k are the buffers that are written, and nothing
--- hangs on what they held. Each call is done, and what the last one leaves is said by the sentence.
+-- ---- as what the calls leave. The lengths are those that the calls ask for; o, o′, o″ and k are the buffers that are
+-- written, and nothing hangs on what they held. Each call is done, and what the last one leaves is said by the law.
 
 module _ {t : ℕ} (s : Size t) where
   -- 1. undelta leaves the block that delta took,

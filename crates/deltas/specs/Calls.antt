@@ -1,6 +1,5 @@
--- What each call of deltas takes, and what it leaves in the buffer lent to it, for every input (document 01, "Numbers
--- given back"). What a call answers is `answerFor` what it takes; `for_pack` and `unfor_pack` take what pack and unpack
--- do.
+-- What each call of deltas takes, and what it leaves in the buffer lent to it, for every input (R52, R54, R57). What a
+-- call answers is `answerFor` what it takes; `for_pack` and `unfor_pack` take what pack and unpack do.
 -- Assumes nothing.
 use mathlib.Core.List.{List, [], _∷_}
 use Prim.Native.Nat.{ℕ}

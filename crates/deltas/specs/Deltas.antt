@@ -1,5 +1,5 @@
--- Differences and references (document 01, "Differences and references"), over the element size t and the width w. Sums
--- and differences wrap modulo 2^t on purpose.
+-- Differences (R50, R51, R53) and frames (R55, R56), over the element size t and the width w. Sums and differences wrap
+-- modulo 2^t, and that is meant (R49).
 -- Assumes nothing.
 use mathlib.Core.List.{List}
 use Prim.Native.Nat.{ℕ, zero, suc, _-_}
@@ -47,6 +47,6 @@ forPackOf t w values reference = packOf t w (frameOf t values reference)
 unfoldable pub unforPackOf : (t w : ℕ) (packed : List ℕ) (reference : ℕ) → List ℕ
 unforPackOf t w packed reference = tab 1024 (λ p. plus t (valueAt t w packed p) reference)
 
--- Two lists of n numbers are summed place by place, modulo 2^t. Demand 3's additive laws sum blocks and bases so.
+-- Two lists of n numbers are summed place by place, modulo 2^t. The additive laws (R146) sum blocks and bases so.
 abbrev pub sumOf : (t n : ℕ) (x y : List ℕ) → List ℕ
 sumOf t n x y = tab n (λ i. plus t (getD x i 0) (getD y i 0))

@@ -65,7 +65,7 @@ module _ (t w m : ℕ) (values packed : List ℕ) where
         ]
       ]
 
-  -- Each answer is given exactly when document 02 gives the reason.
+  -- Each answer is given exactly when there is the reason for it (R3).
   pub drawer-exactly : (a : Answer) → (drawerAnswer t w m values packed ≡ a) ↔ DrawerReason t w m values packed a
   drawer-exactly a = ((λ e. subst (DrawerReason t w m values packed) (sym (gives (reason .1)) ∙ e) (reason .1)), gives)
 

@@ -1,4 +1,4 @@
--- The theorems of document 02's Item 7, said of what the calls answer and leave: each block of a drawer is the single
+-- The theorems on drawers (R66, R69), said of what the calls answer and leave: each block of a drawer is the single
 -- call's result on that block; a drawer of equal parts is answered as each single call is; a drawer of one block is the
 -- single call; and a drawer in two is two drawers.
 -- Assumes nothing.

@@ -1,5 +1,5 @@
--- A drawer of blocks (document 02, Item 7): what the calls on m blocks of one width answer, and what each leaves in
--- the buffer lent to it.
+-- A drawer of blocks (R66 to R68): what the calls on m blocks of one width answer, and what each leaves in the buffer
+-- lent to it.
 -- Assumes nothing.
 use mathlib.Core.List.{List, [], _∷_}
 use Prim.Native.Nat.{ℕ, _*_}

@@ -1,6 +1,6 @@
--- When each number of Item 7 is given, said a second time: in plain arithmetic, in the order of the document, so that
--- the lowest number comes first. It guards the tests in Drawers: that a call on a drawer gets an answer exactly when it
--- has the reason for it here is a theorem.
+-- When each number is given to a call on a drawer (R68), said a second time: in plain arithmetic, in the order of the
+-- rule, so that the lowest number comes first. It guards the tests in Drawers: that a call on a drawer gets an answer
+-- exactly when it has the reason for it here is a theorem.
 -- Assumes nothing.
 use mathlib.Core.List.{List}
 use mathlib.Core.Logic.{_⊎_, _≢_}

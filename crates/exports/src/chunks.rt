@@ -1,6 +1,6 @@
-// A packed u64 body that comes in chunks (document 02, Item 10), for programs in C and in Rust. The program keeps the
-// state, which is three things: the width, how many bytes are held, and the room for them. The calls are lent these one
-// by one.
+// A packed u64 body that comes in chunks (R70 to R75), for programs in C and in Rust. The program keeps the state,
+// which is three things: the width, how many bytes are held, and the room for them. The calls are lent these one by
+// one.
 use trickle::Fed;
 use trickle::Started;
 use trickle::State;

@@ -1,6 +1,6 @@
-// The machine that lists what two column files differ in (document 02, Item 12), for programs in C and in Rust. The
-// program keeps the state, which is eight numbers that it lends to each call as the call before left them; it reads and
-// writes what the calls wish for.
+// The machine that lists what two column files differ in (R127, R131), for programs in C and in Rust. The program keeps
+// the state, which is eight numbers that it lends to each call as the call before left them; it reads and writes what
+// the calls wish for.
 use listing::Place;
 use listing::Stage;
 use listing::State;

@@ -1,5 +1,5 @@
--- A file gets an answer exactly when it has the reason for it: the refusals of Items 1, 9 and 11, each exactly when, in
--- both directions, for the check, for one block out and for the lookup of a row.
+-- A file gets an answer exactly when it has the reason for it: the refusals of the reader (R90), each exactly when
+-- (R3), in both directions, for the check, for one block out and for the lookup of a row.
 -- Assumes nothing.
 use mathlib.Core.Bool.{Bool, true, false}
 use mathlib.Core.List.{List, [], _∷_, _++_}
@@ -64,7 +64,7 @@ module _ (n : ℕ) (test : ℕ → Bool) (Holds : ℕ → Type 0) (plain : (i : 
 
 -- ---- the tests, in plain arithmetic
 
--- The test of a body's run indices says what the document says.
+-- The test of a body's run indices says what its reason says.
 pub runs-plain : (e : Entry) (body : List ℕ) → (hasGoodRuns e body ≡ true) ↔ GoodRuns e body
 unfolding hasGoodRuns numbersOf
 runs-plain e body = go (eqb (e .kind) 3) refl
@@ -85,7 +85,7 @@ runs-plain e body = go (eqb (e .kind) 3) refl
     go false k = ((λ _ q. absurd (eqb-false (e .kind) 3 k q)), (λ _. refl))
 
 module _ (l : List ℕ) where
-  -- So does that of its run indices, block by block,
+  -- So does that of the run indices of block i,
   pub good-plain : (i : ℕ) → (goodIn l i ≡ true) ↔ GoodRuns (entryOf l i) (bodyOf l i)
   good-plain i = runs-plain (entryOf l i) (bodyOf l i)
 

@@ -1,6 +1,6 @@
--- The rows of a file (document 02, Item 1): an accepted file has exactly 1,024 rows for each block, row p is place p
--- mod 1,024 of block p / 1,024, and the lookup of a row gives what one block out leaves at that place. Then the two
--- worked files of Item 1.
+-- The rows of a file (R85, R97): an accepted file has exactly 1,024 rows for each block, row p is place p mod 1,024 of
+-- block p / 1,024, and the lookup of a row gives what one block out leaves at that place. Then the two worked files of
+-- R88, in edition 1.
 -- Assumes nothing.
 use mathlib.Core.Bool.{Bool, true, false}
 use mathlib.Core.List.{List, [], _∷_}

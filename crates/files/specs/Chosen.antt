@@ -1,6 +1,6 @@
--- The check of some of the bodies of a file, in their order (document 02, Item 9), for a program that holds the
--- contents of the file and one body at a time: of the others nothing is read. Where every body is chosen this is the
--- check of the whole file.
+-- The check of some of the bodies of a file, in their order (R95, R111), for a program that holds the contents of the
+-- file and one body at a time: of the others nothing is read. Where every body is chosen this is the check of the whole
+-- file.
 --
 -- `front` is the front of the file, which has the contents.
 -- Assumes nothing.

@@ -1,5 +1,5 @@
--- The column file (document 02, Items 1 and 9): where a body stands, the blocks and the rows of a file, and what the
--- check, one block out and the value at a file row answer and leave. `l` is the file, a list of bytes.
+-- The column file: where a body stands (R83), the blocks (R84) and the rows (R85) of a file, and what the check, one
+-- block out and the value at a file row answer and leave (R89, R90). `l` is the file, a list of bytes.
 -- Assumes nothing.
 use mathlib.Core.Bool.{Bool, true}
 use mathlib.Core.List.{List, [], _∷_, _++_}
@@ -49,8 +49,8 @@ hasTrueRange l i = pick (eqb (edition l) 2) (isRange (rangeOf l i) (blockIn l i)
 unfoldable pub badRange : List ℕ → ℕ
 badRange l = firstBad (count l) (hasTrueRange l)
 
--- The tests of a whole file are, in the order of Items 1 and 9, those of its contents against its length, then that of
--- the run indices, and then that of the ranges.
+-- The tests of a whole file are, in the order of R90, those of its contents against its length, then that of the run
+-- indices, and then that of the ranges.
 abbrev pub fileTests : (l : List ℕ) → List FileTest
 fileTests l =
     contentsTests l (length l)

@@ -1,7 +1,8 @@
--- What a call that goes over the bodies of a file, one after another, asks of one of them: entry i, and a body that
--- begins at a place `at`. Any file and any place will do. In a file whose contents are right, and with `at` where body
--- i begins, these speak of body i and of block i: laws say so, of the range in edition 2 and where the run indices are
--- in range; in edition 1 the range that is not said is from 0 to the highest number of 64 bits.
+-- What a walk over the bodies of a file asks of one of them (R93): of entry i, and of a body that is taken to begin at
+-- the place `at`. The file may be any bytes, and i and `at` any numbers. Laws say what this is in a file whose contents
+-- are right, where `at` is the place of body i: these speak of body i, and of block i where its run indices are in
+-- range, and in edition 2 the test of the range is then the reader's. In edition 1 an entry says no range, and that
+-- test takes 0 to 2^64 - 1 for it.
 -- Assumes nothing.
 use mathlib.Core.Bool.{Bool}
 use mathlib.Core.List.{List, []}

@@ -1,6 +1,6 @@
--- When each number of Items 1, 9 and 11 is given to a file, said a second time: in plain arithmetic, without a test or
--- a search, in the order of the document. It guards the chain of tests in Files: that a file gets an answer exactly
--- when it has the reason for it here is a theorem.
+-- When each number of R90 is given to a file, said a second time: in plain arithmetic, without a test or a search, in
+-- the order of that rule. It guards the chain of tests in Files: that a file gets an answer exactly when it has the
+-- reason for it here is a theorem.
 -- Assumes nothing.
 use mathlib.Core.List.{List}
 use mathlib.Core.Logic.{_⊎_, _≢_}

@@ -1,5 +1,5 @@
--- What the lookup of a file row gives: a value, with how many packed words its bits stand in (document 02, Item 5) or
--- without, or a refusal.
+-- What the lookup of a file row gives (R97): a value, with how many packed words its bits stand in or without (R98), or
+-- a refusal. Then the same of a lookup in one body alone (R93).
 -- Assumes nothing.
 use mathlib.Core.List.{List, [], _∷_}
 use Prim.Native.Nat.{ℕ, _+_, _/_, _%_}
@@ -41,9 +41,9 @@ unfoldable pub rowOf : (l : List ℕ) (p : ℕ) → Row
 rowOf l p =
     pick (isDone (fileAnswer (rowTests l p))) (given (entryOf l (p / 1024)) (p % 1024) (rowAt l p)) (Refused (fileAnswer (rowTests l p)))
 
--- One row is looked up in one body, that of entry i which begins at `at`, in any bytes l. It is tested, in this order,
--- that the body stands whole in the bytes, that its entry is there and right in its edition, that the row is of block i,
--- and that the run indices of the body are in range. Nothing else of the bytes is tested.
+-- Row p is looked up in one body alone, which is that of entry i and is taken to begin at `at`. The file l may be any
+-- bytes. These are the tests, in their order: the bytes of the body are all there; entry i is there and right in its
+-- edition; row p is of block i; every run index of the body is in range. Nothing else of the file is tested.
 abbrev pub rowFromTests : (l : List ℕ) (i at p : ℕ) → List FileTest
 rowFromTests l i at p =
     (leb (at + entryOr l i .length) (length l), Cut)
@@ -52,8 +52,9 @@ rowFromTests l i at p =
     ∷ (hasGoodRuns (entryOr l i) (bodyFrom l i at), Runs i)
     ∷ []
 
--- The value stands at place p mod 1,024 of the block that the entry and the body stand for. In a file that the check
--- accepts, and where body i begins, this is the lookup of row p: a law says so.
+-- Such a lookup gives the value at place p mod 1,024 of the block that the entry and the body stand for, with its count
+-- or without, and else the refusal. In a file that the check accepts, where `at` is the place of body i and row p is of
+-- block i, it gives what the lookup of row p in the whole file gives: that is a law.
 unfoldable pub rowFrom : (l : List ℕ) (i at p : ℕ) → Row
 rowFrom l i at p =
     pick (isDone (fileAnswer (rowFromTests l i at p)))

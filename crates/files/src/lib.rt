@@ -1,10 +1,11 @@
-// The column file (document 02, Items 1 and 9): a check of the whole file, one block out, and the value at a file row.
-// A file is lent as bytes. check, block_out and row_at check the whole file before they answer for a block or a row, by
-// the steps that stand in crates of their own: the contents against the file's length, each body against its entry, and
-// in edition 2 the smallest and the largest value of each block against what its entry says. Of an edition 1 file none
-// of them reads a body twice, but one of runs for a row; of an edition 2 file each lays every block down once for its
-// smallest and largest value, and one block out lays its block down once more. A row is looked up in its body. The calls
-// whose names end in from are for a walk over the bodies, behind a check: they look at one body, and check nothing else.
+// The column file (R89, R90, R97): a check of the whole file, one block out, and the value at a file row. A file is
+// lent as bytes. check, block_out and row_at check the whole file before they answer for a block or a row, by the steps
+// that stand in crates of their own: the contents against the file's length, each body against its entry, and in
+// edition 2 the smallest and the largest value of each block against what its entry says. Of an edition 1 file none of
+// them reads a body twice, but one of runs for a row; of an edition 2 file each lays every block down once for its
+// smallest and largest value, and one block out lays its block down once more. A row is looked up in its body. The
+// calls whose names end in from are for a walk over the bodies, behind a check (R93): they look at one body, and check
+// nothing else.
 mod lookup;
 
 use access::Words;
@@ -331,9 +332,10 @@ pub fn row_at(file: &[u8], p: usize) -> Row
     row_from(file, b, body_start(file, b), p)
 }
 
-// The value at row p of the file out of the body of entry i that begins at `at`, and its count of packed words. No more
-// is looked at than that entry, the words that hold the value, and of a body of runs its indices: this is for a file
-// that was checked before, and a cursor of the walk over its bodies.
+// The value at row p, out of the body of entry i that begins at `at`, with its count of packed words where the kind has
+// one (R93). This is for a file that was checked before, with a number and a place that the walk over its bodies gives.
+// It looks at the entry, its range and the edition, and in the body at the words that hold the value; in a body of
+// differences at the base of its lane and at the rows up to its own, and in a body of runs at every run index.
 pub fn row_from(file: &[u8], i: usize, at: usize, p: usize) -> Row
     ensures { λ r. ⌜ r ≡ rowFrom (now (file .entry)) i at p ⌝ }
 {

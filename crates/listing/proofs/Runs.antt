@@ -1,5 +1,5 @@
--- The theorem: a run of the machine on two files, whatever they are, ends, and writes the text of Item 12. And no wish
--- of the machine, in any state, is for more than its buffer has room for.
+-- The theorem: a run of the machine on two files, whatever they are, ends, and writes the text of R118 to R121 (R128).
+-- And no wish of the machine, in any state, is for more than its buffer has room for (R129).
 -- Assumes nothing.
 use mathlib.Core.Bool.{Bool, true, false}
 use mathlib.Core.List.{List, [], _∷_, _++_, append-nil, append-assoc}

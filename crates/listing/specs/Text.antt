@@ -1,4 +1,4 @@
--- What is printed of two files (document 02, Item 12), as bytes: the lines, and the whole text.
+-- What is printed of two files (R118 to R121), as bytes: the lines, and the whole text.
 -- Assumes nothing.
 use mathlib.Core.List.{List, [], _∷_, _++_}
 use Prim.Native.Nat.{ℕ, _+_, _*_, min}
@@ -83,7 +83,7 @@ listingOf l m = unlessRefused Left l (unlessRefused Right m (changesText l m))
 unfoldable pub blocksOf : (l : List ℕ) → ℕ
 blocksOf l = pick (isDone (fileAnswer (contentsTests l (length l)))) (count l) 0
 
--- It takes no more turns than this: one for each body to check it, three for each block of both to compare it, and
--- eight.
+-- It takes no more turns than this (R129): one for each body to check it, three for each block of both to compare it,
+-- and eight.
 unfoldable pub turnsOf : (l m : List ℕ) → ℕ
 turnsOf l m = 8 + blocksOf l + blocksOf m + 3 * min (blocksOf l) (blocksOf m)

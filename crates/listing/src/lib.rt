@@ -1,13 +1,13 @@
-// What the program `changes` does, decided without a read or a write (document 02, Item 12): a machine that says at
-// each turn what is wished for next, a part of one file or that bytes of the output are written, and is shown what was
-// read by buffers that are lent. It goes through both files twice: once to check them, left before right, and once to
-// compare them, block by block.
+// What the program `changes` does, decided without a read or a write (R127): a machine that says at each turn what is
+// wished for next, a part of one file or that bytes of the output are written, and is shown what was read by buffers
+// that are lent. It goes through both files twice: once to check them, left before right, and once to compare them,
+// block by block.
 //
 // A lent buffer is just what the last read into it gave: where the file has fewer bytes than were wished for, it is
 // shorter.
 //
-// A file that changes between the walks: a body is tested again when it is read again, and no row is listed from one
-// that is refused then. The refusal of its file is the last line.
+// A file that changes between the walks (R125): a body is tested again when it is read again, and no row is listed from
+// one that is refused then. The refusal of its file is the last line.
 mod text;
 
 use bodywise::Body;

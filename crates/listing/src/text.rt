@@ -1,4 +1,4 @@
-// The lines of Item 12, laid into the output. Each call gives the place behind what it laid.
+// The lines of R118 to R121, laid into the output. Each call gives the place behind what it laid.
 use compare::Change;
 use contents::FileAnswer;
 use wishes::Side;

@@ -1,5 +1,5 @@
--- A choice by a test, two tests as one, and a test the other way round. They have names of our own, so that a
--- contract reads as document 01 does.
+-- A choice by a test, two tests as one, and a test the other way round. They have names of our own, so that a contract
+-- reads as the rules do.
 -- Assumes nothing.
 use mathlib.Core.Bool.{Bool, true, false}
 

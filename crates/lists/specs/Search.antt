@@ -1,5 +1,5 @@
 -- The search for the lowest that fails: of a list of tests, of the numbers below a count, and of a list of numbers
--- that have to be below a limit (document 01, numbers 6 and 7; document 02, the places of 10, 13, 15 and 17).
+-- that have to be below a limit (R7, and the lowest places in the table of R143).
 -- Assumes nothing.
 use mathlib.Core.Bool.{Bool}
 use mathlib.Core.List.{List, [], _∷_, map}

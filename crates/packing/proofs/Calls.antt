@@ -1,5 +1,5 @@
--- The sentences of document 01, "The packed layout", about pack and unpack as calls, over the element size and the
--- width: what comes back from a round in either direction. Each law speaks of what the calls answer and leave.
+-- What comes back from a round of pack and unpack as calls, in either direction (R33, R34), over the element size and
+-- the width. Each law speaks of what the calls answer and leave.
 -- Assumes nothing.
 use mathlib.Core.Path.{_≡_, ap, _∙_}
 use mathlib.Core.List.{List}

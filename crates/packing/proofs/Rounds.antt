@@ -1,6 +1,6 @@
--- The laws of packing and unpacking that document 01 states ("The packed layout"), over the element size t and the
--- width w: the one sum that the packed words satisfy and that no other words satisfy, what comes back from a round in
--- either direction, and the two widths at the ends.
+-- The laws of packing and unpacking (R30 to R35), over the element size t and the width w: the one sum that the packed
+-- words satisfy and that no other words satisfy, what comes back from a round in either direction, and the two widths
+-- at the ends.
 -- Assumes nothing.
 use mathlib.Core.Path.{_≡_, refl, sym, ap, _∙_, subst}
 use mathlib.Core.Logic.{_↔_}

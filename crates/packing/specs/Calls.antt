@@ -1,5 +1,5 @@
--- What pack and unpack take, and what each leaves in the buffer lent to it, for every input (document 01, "The packed
--- layout" and "Numbers given back"). What a call answers is `answerFor` what it takes.
+-- What pack and unpack take, and what each leaves in the buffer lent to it, for every input (R36). What a call answers
+-- is `answerFor` what it takes.
 -- Assumes nothing.
 use mathlib.Core.List.{List, [], _∷_}
 use Prim.Native.Nat.{ℕ}

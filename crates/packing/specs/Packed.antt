@@ -1,4 +1,4 @@
--- The packed layout (document 01, "The packed layout"), over the element size t and the width w.
+-- The packed layout (R28 to R32), over the element size t and the width w.
 -- Assumes nothing.
 use mathlib.Core.List.{List}
 use Prim.Native.Nat.{ℕ, _*_, _+_, _/_, _%_, _^_}

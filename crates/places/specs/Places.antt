@@ -1,4 +1,5 @@
--- Where the values of a block stand (document 01, "Places, lanes and rows").
+-- Where the values of a block stand (R15 to R17), where its rows start (R19), and where the value transpose takes each
+-- value from (R21).
 -- Assumes nothing.
 use mathlib.Core.List.{List, [], _∷_}
 use Prim.Native.Nat.{ℕ, _+_, _-_, _*_, _/_, _%_}

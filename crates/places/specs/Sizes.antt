@@ -1,4 +1,4 @@
--- The four element sizes (document 01, "Places, lanes and rows").
+-- The four element sizes (R13).
 -- Assumes nothing.
 use mathlib.Core.Path.{_≡_}
 use mathlib.Core.Logic.{_⊎_}

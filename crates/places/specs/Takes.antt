@@ -1,7 +1,6 @@
--- The table of document 01, "Numbers given back", with the change of document 02's Item 2: what a call can take, the
--- test that the table makes of each, and the refusal where the test fails. The table stands here once. Each call has
--- a list of what it takes, beside the call, in the order of the table's numbers, so the lowest number that applies is
--- the one that is given.
+-- The table of the numbers 1 to 7 (R143): what a call can take, the test that the table makes of each, and the refusal
+-- where the test fails. The table stands here once. Each call has a list of what it takes, beside the call, in the
+-- order of the table's numbers, so the lowest number that applies is the one that is given (R5).
 -- Assumes nothing.
 use mathlib.Core.List.{List, map}
 use Prim.Native.Nat.{ℕ, _*_}
@@ -33,8 +32,7 @@ pub data Taken : Type 0 where
   dictionary-indices : (dictionary list : List ℕ) → Taken
 
 -- This is the table: the test that is made of each of them, and the refusal where it fails. An index is looked at at
--- every width (document 02, Item 2). Numbers 6 and 7 carry the lowest bad place of a list, and 6 carries 0 for one
--- index.
+-- every width (R38). Numbers 6 and 7 carry the lowest bad place of a list (R7), and 6 carries 0 for one index.
 abbrev pub tested : Taken → Test Answer
 tested (a-width t w) = (leb w t, Width)
 tested (a-block values) = (long 1024 values, Block)

@@ -1,5 +1,5 @@
--- The value transpose and its inverse (document 01, "Places, lanes and rows"): what each call takes, and what it leaves
--- in its output. Neither depends on the element size.
+-- The value transpose and its inverse (R22 to R24): what each call takes, and what it leaves in its output. Neither
+-- depends on the element size.
 -- Assumes nothing.
 use mathlib.Core.List.{List, [], _∷_}
 use Prim.Native.Nat.{ℕ}

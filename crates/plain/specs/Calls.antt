@@ -1,5 +1,5 @@
--- What the plain calls take and give, and what each leaves in the buffer lent to it, for every input (document 02, Item
--- 8). What a call answers is `answerFor` what it takes.
+-- What the plain calls take and give, and what each leaves in the buffer lent to it, for every input (R76, R77). What a
+-- call answers is `answerFor` what it takes.
 -- Assumes nothing.
 use mathlib.Core.List.{List, [], _∷_}
 use Prim.Native.Nat.{ℕ}

@@ -1,5 +1,4 @@
--- The packed layout read one bit at a time (document 02, Item 8), over the element size t and the width w. All of it is
--- one sentence:
+-- The packed layout read one bit at a time (R76), over the element size t and the width w. All of it is one sentence:
 --
 --     bit b of row r of lane l is bit (r·w + b) mod t of word (r·w + b) / t of that lane.
 --

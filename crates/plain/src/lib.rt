@@ -1,4 +1,4 @@
-// Packing, unpacking and single access one bit at a time, straight from the lane layout (document 02, Item 8):
+// Packing, unpacking and single access one bit at a time, straight from the lane layout (R76):
 //
 //     bit b of row r of lane l is bit (r · W + b) mod T of word (r · W + b) / T of that lane.
 //

@@ -1,5 +1,5 @@
--- Each batch entry is the single answer taken apart: its number, or its refusal (document 01, "Numbers given back").
--- Each law speaks of what list access and single access give and leave, for every list.
+-- Each entry of a list is the answer of single access taken apart: its value with its count, or its refusal (R45). Each
+-- law speaks of what list access and single access give and leave, for every list.
 -- Assumes nothing.
 use mathlib.Core.List.{List}
 use mathlib.Core.Path.{_≡_, refl, ap}

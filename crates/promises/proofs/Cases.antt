@@ -1,5 +1,5 @@
--- The cases that document 01 marks P hold: one theorem over the one list, `cases-hold`. Before it stands a lemma for
--- each kind of case. It leaves to a case only what is computed from its numbers.
+-- The cases P1 to P11 (R150) hold: one theorem over the one list, `cases-hold`. Before it stands a lemma for each kind
+-- of case. It leaves to a case only what is computed from its numbers.
 -- Assumes nothing.
 use mathlib.Core.Bool.{Bool, true, false}
 use mathlib.Core.List.{List, [], _∷_}

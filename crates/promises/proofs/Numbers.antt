@@ -1,6 +1,6 @@
--- Document 01's table, "Numbers given back", call by call and in plain arithmetic: when a call gives each of its
--- numbers with place p. All of it follows from the one table. Then the table's corners: an empty dictionary, and width
--- 0, where every value is 0 and an index is looked at as anywhere.
+-- The table of the numbers 0 to 7 (R143), call by call and in plain arithmetic: when a call gives each of its numbers
+-- with place p (R3). All of it follows from the one table. Then the table's corners: an empty dictionary (R59), and
+-- width 0, where every value is 0 and an index is looked at as anywhere (R38).
 --
 -- In each statement `gives n` says that the call gives number n with place p. To the right of it stand first the
 -- conditions of the lower numbers, turned round since none of them applies, and then the number's own with its place. A

@@ -1,6 +1,6 @@
--- A refused call leaves each lent buffer unchanged (demand 1): where the number is not 0, each lent buffer holds what
--- it held. One line for each buffer that a call is lent to write, all of them by the law that what is left after a
--- refusal is the old content.
+-- A refused call leaves each lent buffer unchanged (R4): where the number is not 0, each lent buffer holds what it
+-- held. One line for each buffer that a call is lent to write, all of them by the law that what is left after a refusal
+-- is the old content.
 -- Assumes nothing.
 use mathlib.Core.List.{List}
 use mathlib.Core.Path.{_≡_}

@@ -1,6 +1,6 @@
--- The calls answer by document 01's table, "Numbers given back": each number is given, with its place, exactly when it
--- applies and no lower one does. This is shown once, for every list of things taken that stands in the order of the
--- numbers, as each call's does.
+-- The calls answer by the table of the numbers 0 to 7 (R143): each number is given, with its place, exactly when it
+-- applies and no lower one does (R3, R5). This is shown once, for every list of things taken that stands in the order
+-- of the numbers, as each call's does.
 -- Assumes nothing.
 use mathlib.Core.Bool.{Bool, true, false}
 use mathlib.Core.List.{List, [], _∷_}

@@ -1,6 +1,6 @@
--- The cases that document 01 marks P ("Cases at the edges"): the kinds of case, what it means that a case holds, and
--- the one list of them. Each meaning is said over the definitions that the contracts of the public calls name, and of
--- every block that the case speaks of.
+-- The cases P1 to P11 (R150): the kinds of case, what it means that a case holds, and the one list of them. Each
+-- meaning is said over the definitions that the contracts of the public calls name, and of every block that the case
+-- speaks of.
 -- Assumes nothing.
 use mathlib.Core.List.{List, [], _∷_}
 use mathlib.Core.Path.{_≡_}
@@ -72,7 +72,7 @@ abbrev pub Each : (P : ℕ → Type 0) → List ℕ → Type 0
 Each P [] = Unit
 Each P (k ∷ ks) = P k × Each P ks
 
--- These are the kinds of case. A case carries the numbers that document 01 gives for it.
+-- These are the kinds of case. A case carries the numbers that R150 gives for it.
 pub data Case : Type 0 where
   -- At element size t, row r of lane l stands at place p.
   stands : (t r l p : ℕ) → Case
@@ -165,7 +165,7 @@ cases =
     ∷ frames t8 4 3 250 9 3  -- P8, restored at width 4
     ∷ frames t8 3 3 250 9 251  -- P8, not restored at width 3
     ∷ steps t8 5 (5 ∷ 7 ∷ 6 ∷ []) (0 ∷ 2 ∷ 255 ∷ [])  -- P9
-    ∷ runs valuesP10 indicesP10 blockP10  -- P10, which reads without encode (document 02, Item 11)
+    ∷ runs valuesP10 indicesP10 blockP10  -- P10
     ∷ moves t16 56 67  -- P11
     ∷ moves t64 64 1  -- P11
     ∷ []

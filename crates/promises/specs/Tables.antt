@@ -1,7 +1,7 @@
--- The table of document 01, "Numbers given back", said a second time, in plain arithmetic and without a test or a
--- search: when each number applies, and that the lowest number that applies is given. It guards the table that the
--- calls go by, which stands in places, Takes: that the two agree, for whatever a call takes, is shown in
--- proofs/Tables.antt, and proofs/Numbers.antt spells it out call by call.
+-- The table of the numbers 0 to 7 (R143), said a second time, in plain arithmetic and without a test or a search: when
+-- each number applies, and that the lowest number that applies is given (R5). It guards the table that the calls go by,
+-- which stands in places, Takes: that the two agree, for whatever a call takes, is shown in proofs/Tables.antt, and
+-- proofs/Numbers.antt spells it out call by call.
 -- Assumes nothing.
 use mathlib.Core.List.{List, [], _∷_}
 use mathlib.Core.Logic.{_↔_, _⊎_, _≢_}

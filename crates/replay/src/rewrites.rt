@@ -1,5 +1,5 @@
-// The cases of the call that rewrites a file (document 02, Item 11): how the buffers are read, the call made, and what
-// it left compared. Both buffers have bytes.
+// The cases of the call that rewrites a file (R112 to R114): how the buffers are read, the call made, and what it left
+// compared. Both buffers have bytes.
 use crate::file_calls::rewrite;
 use crate::file_cases::judge_write;
 use crate::t8;

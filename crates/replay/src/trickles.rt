@@ -1,5 +1,5 @@
-// The cases of a body that trickles in (document 02, Item 10): how the buffers are read, a state started or made by
-// hand, fed chunk by chunk and asked, and what it left compared.
+// The cases of a body that trickles in (R70 to R75): how the buffers are read, a state started or made by hand, fed
+// chunk by chunk and asked, and what it left compared.
 use crate::file_cases::judge;
 use crate::t8;
 use crate::t64;

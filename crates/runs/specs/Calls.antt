@@ -1,5 +1,5 @@
--- What decode takes, and what it leaves in the buffer lent to it, for every input (document 01, "Runs" and "Numbers
--- given back"). What it answers is `answerFor` what it takes. Nothing here depends on the element size.
+-- What decode takes, and what it leaves in the buffer lent to it, for every input (R58, R59). What it answers is
+-- `answerFor` what it takes. Nothing here depends on the element size.
 -- Assumes nothing.
 use mathlib.Core.List.{List, [], _∷_}
 use Prim.Native.Nat.{ℕ}

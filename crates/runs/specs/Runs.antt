@@ -1,5 +1,5 @@
--- The runs of a block of 1,024 values, as decode has them (document 01, "Runs"; document 02, Item 11): a dictionary of
--- values, and an index into it for each place.
+-- The runs of a block of 1,024 values, as decode has them (R58): a dictionary of values, and an index into it for each
+-- place.
 -- Assumes nothing.
 use mathlib.Core.List.{List}
 use Prim.Native.Nat.{ℕ}

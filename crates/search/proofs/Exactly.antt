@@ -1,4 +1,4 @@
--- Each number of a search is given exactly when document 02's Item 9 lists it: the tests agree with the plain reasons.
+-- Each number of a search is given exactly when R110 says: the tests agree with the plain reasons.
 -- Assumes nothing.
 use mathlib.Core.Bool.{Bool, true, false}
 use mathlib.Core.List.{List, [], _∷_}

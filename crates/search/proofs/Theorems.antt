@@ -1,5 +1,5 @@
--- The theorems on the search (document 02, Item 9): which blocks are opened, that skipping the others loses no row of
--- an accepted file, that the rows are listed once each and rising, and what is read off an answer.
+-- The theorems on the search (R107 to R109): which blocks are opened, that skipping the others loses no row of an
+-- accepted file, that the rows are listed once each and rising, and what is read off an answer.
 -- Assumes nothing.
 use mathlib.Core.Bool.{Bool, true, false}
 use mathlib.Core.List.{List}

@@ -1,4 +1,4 @@
--- What is asked of one block. Private steps name these; no public contract does.
+-- What the search asks of one block. The contracts of private steps name these; no public contract does.
 -- Assumes nothing.
 use mathlib.Core.Bool.{Bool, true}
 use mathlib.Core.List.{List}
@@ -11,7 +11,8 @@ use Rattle.bodies.specs.Bodies.{hasGoodRuns}
 use Rattle.files.specs.Files.{bodyOf, hasTrueRange}
 use Rattle.search.specs.Search.{opens}
 
--- Of a block its range is asked, or its run indices.
+-- This test is what is asked of block i: where `ranges` holds, that the range of its entry is the true one, and else
+-- that its run indices are in range.
 abbrev pub asked : (l : List ℕ) (ranges : Bool) (i : ℕ) → Bool
 asked l ranges i = pick ranges (hasTrueRange l i) (hasGoodRuns (entryOf l i) (bodyOf l i))
 
@@ -19,7 +20,8 @@ asked l ranges i = pick ranges (hasTrueRange l i) (hasGoodRuns (entryOf l i) (bo
 abbrev pub badIn : (l : List ℕ) (low high : ℕ) (ranges : Bool) → ℕ
 badIn l low high ranges = firstBad (count l) (λ i. pick (opens l low high i) (asked l ranges i) true)
 
--- By the contents alone the range of block i lies within the bounds, in edition 2. Edition 1 says no range.
+-- This test says, by the contents alone, that the range of entry i lies within the bounds. In edition 1 an entry says
+-- no range, and the test fails.
 abbrev pub withinBy : (front : List ℕ) (low high i : ℕ) → Bool
 withinBy front low high i =
     both (eqb (editionOr front) 2) (both (leb low (rangeOr front i .smallest)) (leb (rangeOr front i .largest) high))

@@ -1,5 +1,5 @@
 -- When each number of a search is given, said a second time: in plain arithmetic, without a search for the lowest, in
--- the order of Item 9. How many rows there are to list is taken from Search. It guards the tests there: that a search
+-- the order of R110. How many rows there are to list is taken from Search. It guards the tests there: that a search
 -- gets an answer exactly when it has the reason for it here is a theorem.
 -- Assumes nothing.
 use mathlib.Core.List.{List}

@@ -1,5 +1,5 @@
--- The search of a column file by value (document 02, Item 9): which blocks are opened, which rows are listed, and what
--- the call answers and leaves. `l` is the file, and `low` and `high` are the bounds, both included.
+-- The search of a column file by value (R107): which blocks are opened (R108), which rows are listed, and what the call
+-- answers and leaves (R110). `l` is the file, and `low` and `high` are the bounds, both included.
 -- Assumes nothing.
 use mathlib.Core.Bool.{Bool, true}
 use mathlib.Core.List.{List, [], _∷_, _++_}

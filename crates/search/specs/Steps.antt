@@ -1,6 +1,6 @@
--- The search of a file body by body (document 02, Item 9), for a program that holds the contents of the file and one
--- body at a time: which bodies it reads, the rows of one block, and what the contents and these bodies in their order
--- give. That this is what the search of the file gives is a theorem.
+-- The search of a file body by body (R111), for a program that holds the contents of the file and one body at a time:
+-- which bodies it reads, the rows of one block, and what the contents and these bodies in their order give. That this
+-- is what the search of the file gives is a theorem.
 --
 -- `front` is the front of the file, which has the contents, and `low` and `high` are the bounds, both included.
 -- Assumes nothing.

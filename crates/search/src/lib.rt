@@ -1,13 +1,13 @@
-// The search of a column file by value (document 02, Item 9): it lists, rising, the rows whose value lies between two
-// bounds, both included. A block is opened exactly when the range that its entry says and the bounds have a number in
-// common, or the edition is 1; of a block that is not opened no byte of the body is read.
+// The search of a column file by value (R107 to R110): it lists, rising, the rows whose value lies between two bounds,
+// both included. A block is opened exactly when the range that its entry says and the bounds have a number in common,
+// or the edition is 1; of a block that is not opened no byte of the body is read.
 //
 // Whether there is room is known before the first row is written, so a refused search writes nothing. Where the room
 // would do for every row of the opened blocks, nothing is counted for that, and each of them is laid down once for its
 // rows.
 //
-// A program that does not hold the file makes the same search by steps: `opens` says by the contents which bodies to
-// read, and `rows_in` lists the rows of one block.
+// A program that does not hold the file makes the same search by steps (R111): `opens` says by the contents which
+// bodies to read, and `rows_in` lists the rows of one block.
 use contents::FileAnswer;
 use contents::Range;
 use contents::count;

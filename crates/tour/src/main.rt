@@ -1,7 +1,7 @@
 // A tour in a screenful, for a person: a block is packed, a row is looked up, two calls are refused, a budget is kept,
 // a width does damage that is too narrow for its numbers, dates are transposed before their differences are taken, and
 // a column file is written and read. The program reads nothing. What it must write stands in crates/tour/stdout, worked
-// out by hand from documents 01 and 02.
+// out by hand from the rules (docs/RULES.md).
 use access::t8::Single;
 use contents::FileAnswer;
 use files::Row;

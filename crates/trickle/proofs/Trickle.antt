@@ -1,8 +1,8 @@
--- The theorems of document 02's Item 10, said of what the calls give and leave: the cuts make no difference; a full
--- state takes no more; when the body is full, ask gives what unpack gives; the bytes past those held play no part; feed
--- and ask go by what a state counts as; when each number is given; and a state that cannot be is answered as that of a
--- refused start. The room of a state has 8,192 bytes; the laws ask for this where they need it, and of a state in a
--- program the prover knows it.
+-- The theorems on bodies that trickle in, said of what the calls give and leave: the cuts make no difference (R73); a
+-- full state takes no more (R71); when the body is full, ask gives what unpack gives (R72); the bytes past those held
+-- play no part (R74); feed and ask go by what a state counts as; when each number is given (R75); and a state that
+-- cannot be is answered as that of a refused start. The room of a state has 8,192 bytes; the laws ask for this where
+-- they need it, and of a state in a program the prover knows it.
 -- Assumes nothing.
 use mathlib.Core.Bool.{false}
 use mathlib.Core.List.{List, [], _++_}

@@ -1,6 +1,5 @@
--- What the calls on a body that trickles in answer (document 02, Item 10): the numbers and places, the answer by a
--- list of tests, and what a call leaves in a lent buffer. The tests of each call stand beside it, in the order of the
--- item.
+-- What the calls on a body that trickles in answer (R75): the numbers and places, the answer by a list of tests, and
+-- what a call leaves in a lent buffer. The tests of each call stand beside it, in the order of the rule.
 -- Assumes nothing.
 use mathlib.Core.Bool.{Bool}
 use mathlib.Core.List.{List}

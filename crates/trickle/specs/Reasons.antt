@@ -1,4 +1,4 @@
--- When each number of Item 10 is given to an ask, said a second time: in plain arithmetic on the fields of the state,
+-- When each number is given to an ask (R75), said a second time: in plain arithmetic on the fields of the state,
 -- without a test and without what the state counts as. It guards the tests in Trickle: that an ask gets an answer
 -- exactly when it has the reason for it here is a theorem.
 -- Assumes nothing.

@@ -1,5 +1,5 @@
--- A packed u64 body that comes in chunks (document 02, Item 10): what a state counts as, and what start, feed and ask
--- give for every input.
+-- A packed u64 body that comes in chunks (R70 to R75): what a state counts as, and what start, feed and ask give for
+-- every input.
 -- Assumes nothing.
 use mathlib.Core.Bool.{Bool}
 use mathlib.Core.List.{List, [], _∷_, _++_}

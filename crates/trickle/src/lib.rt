@@ -1,5 +1,5 @@
-// A packed u64 body that comes in chunks (document 02, Item 10): chunks of any length are fed to a state, and when the
-// bytes of the body are all there, the state is asked for the values.
+// A packed u64 body that comes in chunks (R70 to R75): chunks of any length are fed to a state, and when the bytes of
+// the body are all there, the state is asked for the values.
 //
 // A state is a struct with public fields, so that one may be handed in that no start gave. One that cannot be the state
 // of a body counts as the state that a refused start gives, and feed and ask go by the state that counts.

@@ -1,6 +1,6 @@
--- Document 02, Items 3 and 9, of the call: each number exactly when the document gives it, a refused call leaves the
--- output as it was, and a call that is done leaves the file at the front and the bytes behind it. The file is one that
--- the reader accepts, and its rows are the numbers: so say the calls that read one block out and one row.
+-- What is proved of the call: each number is given exactly when R105 says, a refused call leaves the output as it was,
+-- and a call that is done leaves the file at the front and the bytes behind it as they were. The file is one that the
+-- reader accepts, and its rows are the numbers (R102): so say the calls that read one block out and one row.
 -- Assumes nothing.
 use mathlib.Core.List.{List, [], _∷_, _++_}
 use mathlib.Core.Logic.{_↔_}
@@ -90,7 +90,7 @@ module _ (values output : List ℕ) where
         ]
       ]
 
-  -- Each answer is given exactly when document 02 gives the reason.
+  -- Each answer is given exactly when there is the reason for it (R3).
   pub write-exactly : (a : FileAnswer) → (fileAnswer (writeTests values output) ≡ a) ↔ WriteReason values output a
   write-exactly a = ((λ e. subst (WriteReason values output) (sym (gives (reason .1)) ∙ e) (reason .1)), gives)
 
@@ -229,7 +229,7 @@ module _ (values : List ℕ) (b : Blocks values) (fits : Elements t64 values) (i
       × (entryOf (fileOf values) i .length ≡ candidate kind (blockAt values i) .entry .length → entryOf (fileOf values) i .kind ≤ kind)
   block-shortest kind k = rw entry-is (chosen-shortest (blockAt values i) kind k)
 
--- The two worked files of Item 1, in edition 2. No blocks: 02 00 00 00.
+-- The two worked files of R88, in edition 2. No blocks: 02 00 00 00.
 abbrev pub noBlocks : List ℕ
 noBlocks = 2 ∷ 0 ∷ 0 ∷ 0 ∷ []
 

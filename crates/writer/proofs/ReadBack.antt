@@ -1,5 +1,5 @@
--- Document 02, Items 3 and 9, of a whole file: the reader accepts what the writer lays down, its rows are the numbers,
--- and each entry says its block's smallest and largest number.
+-- What is proved of a file that the writer lays down (R87, R102): the reader accepts it, its rows are the numbers, and
+-- each entry says its block's smallest and largest number.
 -- Assumes nothing.
 use mathlib.Core.Bool.{Bool, true}
 use mathlib.Core.List.{List, _++_, append-assoc}

@@ -1,5 +1,4 @@
--- The column file that stands for a list of numbers, and what the writer answers and leaves (document 02, Items 3 and
--- 9).
+-- The column file that stands for a list of numbers (R99 to R101), and what the writer answers and leaves (R105).
 -- Assumes nothing.
 use mathlib.Core.List.{List, [], _∷_, _++_}
 use Prim.Native.Nat.{ℕ, _/_, _%_}

@@ -1,8 +1,8 @@
-// The column file is written (document 02, Items 3 and 9): 1,024·N numbers become an edition 2 file. Each block is laid
-// down as the crate candidates chooses, and its entry says its smallest and its largest number. The file's length is
-// known before the first byte is written, so a refused call writes nothing. For that all blocks are measured first, and
-// of each three numbers are kept, by which it is laid down later: its smallest number, its largest, and the width of
-// its differences. The rooms for the three candidates are made once for a file.
+// The column file is written (R99): 1,024·N numbers become an edition 2 file. Each block is laid down as the crate
+// candidates chooses (R100, R101), and its entry says its smallest and its largest number. The file's length is known
+// before the first byte is written, so a refused call writes nothing. For that all blocks are measured first, and of
+// each three numbers are kept, by which it is laid down later: its smallest number, its largest, and the width of its
+// differences. The rooms for the three candidates are made once for a file.
 use candidates::entry_with;
 use candidates::lay_by;
 use candidates::measure;

@@ -9,7 +9,7 @@ from models.files import DIFFERENCES, FRAME, PACKED
 
 
 def small_worked(dice):
-    """Item 1's two files, without the output that the file of no blocks leaves as it is."""
+    """The two worked files of R88, without the output that the file of no blocks leaves as it is."""
     yield from (question for question in worked_files(dice) if question.op != BLOCK_OUT or question.a != NO_BLOCKS)
 
 
@@ -138,7 +138,7 @@ SMALL_SECTIONS = (
 # These outputs of blocks are left to the sweep, and to the row lookups of this sample and of small_editions: with
 # edition 2 there is more to keep in the same room.
 LEFT_OUT = (
-    "Item 1's file of sevens, block 1 into 1024",
+    "the worked file of sevens, block 1 into 1024",
     "kind 1 width 64, block 0 into 1024",
     "kind 2 width 63, block 0 into 1024",
     "1024 runs, block 0 into 1024",

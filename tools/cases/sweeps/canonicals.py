@@ -1,6 +1,6 @@
-"""The deliberate cases of Item 14's canonical check: the writer's files; every other way to hold the same rows, which
-is another kind, one bit wider, another reference or another base; several blocks that differ; good and bad files of
-edition 1; and damaged files of each number.
+"""The deliberate cases of the canonical check (R115 to R117): the writer's files; every other way to hold the same
+rows, which is another kind, one bit wider, another reference or another base; several blocks that differ; good and bad
+files of edition 1; and damaged files of each number.
 
 Each section is a function that gives questions, as in reads.py. The ranges in the entries are the bodies', but
 where a section says so.
@@ -159,7 +159,7 @@ def canonical_edition_1(dice):
 
 
 def canonical_runs(dice):
-    """Run blocks of edition 2, which the writer never gives, and which are not read, by Item 11."""
+    """Run blocks of edition 2, which the writer never gives, and which are not read (R82)."""
     for n in (1, 2, 1024):
         runs = any_runs(dice, n)
         yield ask_canonical(f"{n} runs", column_file([runs], 2))

@@ -1,5 +1,5 @@
-"""The deliberate cases of Item 7: both calls at every size and width, counts of blocks at their edges, values that fit
-the width and that do not, every length that is off, and every set of reasons at once.
+"""The deliberate cases of drawers (R66 to R68): both calls at every size and width, counts of blocks at their edges,
+values that fit the width and that do not, every length that is off, and every set of reasons at once.
 
 Each section is a function that gives questions, as in reads.py.
 """

@@ -1,5 +1,5 @@
-"""The deliberate cases of Item 9 for the calls of the reader: edition 2 with its ranges, true ones and others, and the
-order of 13, 15 and 12.
+"""The deliberate cases of edition 2 for the calls of the reader: its ranges, true ones and others (R82, R87), and the
+order of 13, 15 and 12 (R90).
 
 Each section is a function that gives questions, as in reads.py, and some are those of reads.py once more,
 with files of edition 2.
@@ -14,7 +14,7 @@ from . import reads
 
 
 def edition_2_worked(dice):
-    """Item 1's two files in edition 2."""
+    """The two worked files of R88, in edition 2."""
     yield from ask_all(dice, "no blocks in edition 2", reads.NO_BLOCKS_2)
     yield from ask_all(dice, "sevens in edition 2", reads.SEVENS_2, row=1023)
     yield ask_row("sevens in edition 2", reads.SEVENS_2, 1024)
@@ -40,8 +40,8 @@ def narrow_runs(dice):
 
 
 def edition_2_runs(dice):
-    """Run blocks in edition 2, with the range of the values, and with that of the list. All are refused, by Item 11, so
-    a few are enough."""
+    """Run blocks in edition 2, with the range of the values, and with that of the list. All are refused (R82), so a few
+    are enough."""
     for name, block in narrow_runs(dice).items():
         yield from ask_all(dice, f"edition 2, runs with {name}", column_file([frame(0, b"", 7), block], 2), 1, 1500)
         listed = files.words_of(block.body[2048:])

@@ -1,5 +1,5 @@
-"""The deliberate cases of Items 1 and 5: every kind and width, every count of words, every fault, and every two faults
-whose order can be seen.
+"""The deliberate cases of the reader (R89, R90, R98): every kind and width, every count of words, every fault, and
+every two faults whose order can be seen.
 
 Each section is a function that gives questions. What the answer is comes from the model and is never written here; the
 one exception is the order of the refusals, which stands again in STEPS, so that the tests can hold the model to it.
@@ -28,11 +28,11 @@ TOO_HIGH = (2**16, 2**26, 2**32, 2**32 + 1, 2**42, 2**54, 2**63, 2**64 - 1)
 
 
 def worked_files(dice):
-    """The two files that Item 1 has byte for byte."""
-    yield from ask_all(dice, "Item 1's file of no blocks", NO_BLOCKS)
-    yield from ask_all(dice, "Item 1's file of sevens", SEVENS, row=1023)
-    yield ask_row("Item 1's file of sevens", SEVENS, 1024)
-    yield ask_block(dice, "Item 1's file of sevens", SEVENS, 1)
+    """The two files that R88 has byte for byte, in edition 1."""
+    yield from ask_all(dice, "the worked file of no blocks", NO_BLOCKS)
+    yield from ask_all(dice, "the worked file of sevens", SEVENS, row=1023)
+    yield ask_row("the worked file of sevens", SEVENS, 1024)
+    yield ask_block(dice, "the worked file of sevens", SEVENS, 1)
 
 
 def every_width(dice):
@@ -350,7 +350,7 @@ def trailing(dice, edition=1):
         yield from ask_all(dice, f"{name} and a second file", data + SEVENS)
 
 
-# Two faults at once. STEPS is Item 1's sentence on refusals, in its order, with what Item 9 adds to it.
+# Two faults at once. STEPS is the table of R90, in its order.
 
 STEPS = (
     "2 output length",

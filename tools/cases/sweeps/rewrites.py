@@ -1,5 +1,5 @@
-"""The deliberate cases of Item 11's rewrite: every kind and both editions, every way to hold the same rows, files of
-mixed blocks, of none and of 256, outputs that are one short and exact, and damaged files of each number.
+"""The deliberate cases of the rewrite (R112 to R114): every kind and both editions, every way to hold the same rows,
+files of mixed blocks, of none and of 256, outputs that are one short and exact, and damaged files of each number.
 
 Each section is a function that gives questions, as in reads.py. They have files of both editions.
 """
@@ -171,7 +171,7 @@ def rewrite_bodies(dice):
 
 
 def rewrite_runs_in_2(dice):
-    """Run blocks of edition 2, alone and behind others. They are refused, by Item 11."""
+    """Run blocks of edition 2, alone and behind others. They are refused (R82)."""
     for n in (1, 5, 1024):
         runs = any_runs(dice, n)
         yield ask_rewritten(dice, f"{n} runs in edition 2", column_file([runs], 2), 700)

@@ -1,6 +1,6 @@
-"""The deliberate cases of Item 9's search: bounds at the edges of a block's range and one past them, ranges that lie
-about their body in blocks that are opened and in blocks that are not, run blocks in both editions, and room that is one
-short, exact and one long.
+"""The deliberate cases of the search (R107 to R110): bounds at the edges of a block's range and one past them, ranges
+that lie about their body in blocks that are opened and in blocks that are not, run blocks in both editions, and room
+that is one short, exact and one long.
 
 Each section is a function that gives questions, as in reads.py. They have files of both editions.
 """

@@ -1,5 +1,5 @@
-"""The deliberate cases of Item 10: every width, cuts of every sort, chunks past the end of the body, questions that
-come too early, states that are handed in, and every set of reasons at once.
+"""The deliberate cases of trickles (R70 to R75): every width, cuts of every sort, chunks past the end of the body,
+questions that come too early, states that are handed in, and every set of reasons at once.
 
 Each section is a function that gives questions, as in reads.py. The bytes are thrown, and so is the whole room of a
 state made by hand.

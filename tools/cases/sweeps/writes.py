@@ -1,5 +1,5 @@
-"""The deliberate cases of Item 3: every kind and width that can be chosen, every order of the three lengths, an outlier
-at every class of place, and the edges of counts and outputs.
+"""The deliberate cases of the writer (R99 to R105): every kind and width that can be chosen, every order of the three
+lengths, an outlier at every class of place, and the edges of counts and outputs.
 
 Each section is a function that gives questions, as in reads.py. Every file that the model writes here goes back into
 the three calls of the reader.

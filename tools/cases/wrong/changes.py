@@ -1,4 +1,5 @@
-"""Programs of Item 12 that are wrong on purpose, each in one thing: functions of two files that give another text.
+"""Programs in the place of changes that are wrong on purpose, each in one thing: functions of two files that give
+another text than that of R118 to R121.
 
 The pairs have to tell each of them from the right one.
 """

@@ -2,7 +2,7 @@
 //!
 //! Everything else in this program asks here what a call takes: the rules for what is refused, the
 //! making of questions, and the layout of a record. The numbers are those of the stream format and
-//! stay for good; 9 was run encode's, which has left (document 02, Item 11).
+//! stay for good; 9 was run encode's, which is no call any more (R60).
 
 use Role::*;
 
@@ -53,7 +53,7 @@ pub const CALLS: [Call; 15] = [
 ];
 
 /// What a record of the stream asks for: a call of the main engine, or the same call of the plain
-/// one (document 02, Item 8), which is asked the same questions and must give the same answers.
+/// one (R76), which is asked the same questions and must give the same answers.
 #[derive(Clone, Copy, PartialEq, Eq)]
 pub struct Op {
     pub call: Call,

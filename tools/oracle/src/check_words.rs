@@ -1,7 +1,7 @@
 //! The part of the self-check that holds the count of words to what it counts, and the part of a
-//! list that a budget allows to what Item 6 says of it.
+//! list that a budget allows to what R46 and R48 say of it.
 //!
-//! Item 5's sentence is a formula. Here words are counted: once by going through a row's bits one
+//! The sentence of R39 is a formula. Here words are counted: once by going through a row's bits one
 //! at a time, and once by having the crate pack a value of ones among zeros and looking at its
 //! words.
 
@@ -128,9 +128,9 @@ fn worked_budgets() -> Line {
     (worked.iter().all(as_worked), what.to_string())
 }
 
-/// Item 6's facts at each width, for a list with indices in one word and in two: what is answered
-/// costs at most the budget, and at most two words for each lookup; one lookup more would cost more
-/// than the budget; and a budget of twice the list's length answers all.
+/// The facts of R46 and R48 at each width, for a list with indices in one word and in two: what is
+/// answered costs at most the budget, and at most two words for each lookup; one lookup more would
+/// cost more than the budget; and a budget of twice the list's length answers all.
 fn budgets_of_random_lists(t: u32) -> Line {
     let mut random = Random::new(t.into());
     let mut holds = |width: u64| {

@@ -1,12 +1,12 @@
 //! The oracle: makes questions for the calls of the case stream, has the crate `fastlanes` answer
-//! them, and writes the cases to standard output; and checks the judge itself against documents 01
-//! and 02.
+//! them, and writes the cases to standard output; and checks the judge itself against
+//! docs/RULES.md.
 //!
 //! The modules, from the ground up: `call` says what each call takes, `stream` how a case is
 //! written down, `rules` what is refused, `words` how many words are read, `judge` asks the crate,
 //! `random`, `values` and `questions` make what is asked, `sweep`, `mixed` and `sample` choose it,
-//! `sink` has it answered and written. `selfcheck` and `check_words` hold the judge to the
-//! documents.
+//! `sink` has it answered and written. `selfcheck` and `check_words` hold the judge to
+//! docs/RULES.md.
 
 mod call;
 mod check_words;
@@ -31,7 +31,7 @@ const USAGE: &str = "\
 usage: oracle sweep [SEED]      every call at every size and width, and the edges
        oracle mixed SEED COUNT  so many random cases; the same seed gives the same bytes
        oracle sample            the small stream that the repository keeps
-       oracle selfcheck         the crate's answers and panics against document 01, and the count
+       oracle selfcheck         the crate's answers and panics against docs/RULES.md, and the count
                                 of words that a lookup reads against the crate's packing
 
 The first three write a case stream to standard output.

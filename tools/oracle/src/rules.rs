@@ -1,4 +1,4 @@
-//! What is refused: document 01's table "Numbers given back", with document 02's Item 2, written down once.
+//! What is refused: the numbers 1 to 7 of the table of R143, written down once.
 //!
 //! The crate has no numbers: it panics or is undefined where a call is refused here. So this module
 //! alone says what is expected of a refused case, and it stands apart from every proof and every
@@ -69,8 +69,8 @@ fn list_and_outputs_differ(q: &Question) -> Option<usize> {
 }
 
 /// 6: an index is 1024 or more. Of a list, the lowest such place; of a single access, 0. The crate
-/// does not look at an index at width 0; document 02, Item 2, asks for it at every width, and Item
-/// 6 for the entire list, whatever the budget is.
+/// does not look at an index at width 0; R38 asks for it at every width, and R47 for the whole
+/// list, whatever the budget is.
 fn index_1024_or_more(q: &Question) -> Option<usize> {
     let indices = match q.call {
         Call::Single => std::slice::from_ref(&q.index),

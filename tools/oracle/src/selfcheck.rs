@@ -1,11 +1,11 @@
-//! The mode `selfcheck`: is the judge the crate that document 01 speaks of?
+//! The mode `selfcheck`: is the judge the crate that docs/RULES.md speaks of?
 //!
-//! The crate's order list and lanes, and its answers, are held to the numbers of document 01 and of
-//! its cases P5 to P11 (P1 to P4 are inside its calls), and the crate is shown to panic where
-//! document 01 says that it does. One line for each, `ok` or `FAILED`. What document 01 calls
-//! undefined in release is not run in release; where the program was built with debug assertions,
-//! the crate's own assertions are seen to catch it. The lines on the count of words, which is
-//! document 02's, come from `check_words`.
+//! The crate's order list and lanes, and its answers, are held to R13, to R15 and to the cases P5
+//! to P11 of R150 (P1 to P4 are inside its calls), and the crate is shown to panic where R12 says
+//! that it does. One line for each, `ok` or `FAILED`. What R12 calls undefined in release is not
+//! run in release; where the program was built with debug assertions, the crate's own assertions
+//! are seen to catch it. The lines on the count of words, which the crate does not have (R39), come
+//! from `check_words`.
 
 use crate::call::{BLOCK, SIZES};
 use crate::check_words;
@@ -174,7 +174,7 @@ fn panics(call: impl FnOnce()) -> bool {
     catch_unwind(AssertUnwindSafe(call)).is_err()
 }
 
-/// The panics of document 01, at one size. All lengths are right but where a line says otherwise.
+/// The panics of R12, at one size. All lengths are right but where a line says otherwise.
 fn panics_at<E: Size + PartialEq>() -> Vec<Line> {
     let mut out = vec![];
     for (name, call) in calls_with_a_width::<E>() {

@@ -68,7 +68,7 @@ fn is_edge(t: u32, width: u64) -> bool {
 
 /// Single access at the first place and the last, which is in the last row; at two others, and at
 /// the first and last row that stands in two words, where there is one. At width 0 also at indices
-/// that are no places, which the crate takes there and document 02, Item 2, refuses.
+/// that are no places, which the crate takes there and R38 refuses.
 fn places(t: u32, width: u64, random: &mut Random, sink: &mut Sink) {
     let mut indices = vec![0, 1023, random.below(1024), random.below(1024)];
     indices.extend(places_in_two(t, width, random));

@@ -1,14 +1,14 @@
-//! How many packed words a lookup reads, and how much of a list a budget allows: document 02, Items
-//! 5 and 6, written down once.
+//! How many packed words a lookup reads (R39), and how much of a list a budget allows (R46),
+//! written down once.
 //!
 //! The crate counts no words, so this module alone says what is expected of a count. It takes the
-//! row of an index from document 01's place formula, by trying the rows, and the count of a row
-//! from Item 5's sentence. The self-check holds both to the crate's own packing.
+//! row of an index from the place formula (R16), by trying the rows, and the count of a row from
+//! the sentence of R39. The self-check holds both to the crate's own packing.
 
 use crate::call::{BLOCK, Call};
 use crate::stream::{B, Question};
 
-/// Document 01's order list.
+/// The order list (R15).
 const ORDER: [u64; 8] = [0, 4, 2, 6, 1, 5, 3, 7];
 
 /// The words that an accepted question reads: of a single access its count, of a list access the
@@ -22,8 +22,8 @@ pub fn read(q: &Question) -> Option<u64> {
     }
 }
 
-/// Item 6: the length of the longest front part of the list whose counts sum to at most the budget,
-/// and that sum. The part of no lookup costs nothing, so there always is one.
+/// What a budget allows (R46): the length of the longest front part of the list whose counts sum to
+/// at most the budget, and that sum. The part of no lookup costs nothing, so there always is one.
 pub fn affordable(q: &Question) -> (usize, u64) {
     let sums = sums(q);
     let longest = sums.iter().rposition(|&sum| sum <= q.reference);
@@ -47,7 +47,7 @@ pub fn count(t: u32, width: u64, index: u64) -> u64 {
     of_row(t, width, row(t, index))
 }
 
-/// Item 5's sentence: 0 at width 0; 1 if (row * W mod T) + W is at most T; else 2.
+/// The sentence of R39: 0 at width 0; 1 if (row * W mod T) + W is at most T; else 2.
 pub fn of_row(t: u32, width: u64, row: u64) -> u64 {
     let t = u64::from(t);
     if width == 0 {
@@ -67,7 +67,7 @@ pub fn row(t: u32, index: u64) -> u64 {
     found.unwrap_or_else(|| panic!("place {index} has no row at size {t}"))
 }
 
-/// Document 01's place formula.
+/// The place formula (R16).
 pub fn place(row: u64, lane: u64) -> u64 {
     ORDER[row as usize / 8] * 16 + row % 8 * 128 + lane
 }

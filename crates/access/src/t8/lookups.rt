@@ -1,12 +1,12 @@
 // Written by tools/sizes from the text of size 16: edit that one, and run tools/sizes.
 // Lane and row of a place of a block of u8 values, by arithmetic.
 //
-// T 16 and T 8 have no table (document 02, Item 4): on a machine with little cache two tables of 1,024 numbers do not stay in it.
-// T 64 and T 32 look up in tables. So this is the one module whose text is not the same at all four sizes. Its functions
-// and their contracts are. The module is private: its functions are public to the module above alone.
+// T 16 and T 8 have no table (R18): on a machine with little cache two tables of 1,024 numbers do not stay in it. T 64
+// and T 32 look up in tables. So this is the one module whose text is not the same at all four sizes. Its functions and
+// their contracts are. The module is private: its functions are public to the module above alone.
 //
-// The order list is not needed here: its entries 0 and 4, which are 0 and 1, are the only ones that the rule for the row asks for at T 16, and at T 8 it asks for
-// entry 0 alone.
+// The order list is not needed here: its entries 0 and 4, which are 0 and 1, are the only ones that the rule for the
+// row asks for at T 16, and at T 8 it asks for entry 0 alone.
 ghost use mathlib.Core.Path.{_≡_};
 ghost use Prim.Native.Nat.{_<_};
 ghost use lib.ListN.{getD};
@@ -83,7 +83,8 @@ fn lane_by_rule(place: usize) -> usize
     place % LANES
 }
 
-// The row of a place. Of T / 8 times eight rows, those of one eight stand 128 places from each other, and the next eight LANES places on.
+// The row of a place. Of T / 8 times eight rows, those of one eight stand 128 places from each other, and the next
+// eight LANES places on.
 fn row_by_rule(place: usize) -> usize
     requires { ⌜ place < 1024 ⌝ }
     ensures { λ r. ⌜ r ≡ row t8 place ⌝ }

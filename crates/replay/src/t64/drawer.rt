@@ -1,5 +1,4 @@
-// The cases of drawers of u64 values (document 02, Item 7): how the buffers are read, the call made, and what it left
-// compared.
+// The cases of drawers of u64 values (R66 to R68): how the buffers are read, the call made, and what it left compared.
 use crate::t64::within;
 use crate::wire::read_bytes;
 use stream::Head;
