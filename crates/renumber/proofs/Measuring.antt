@@ -20,7 +20,7 @@ use Rattle.candidates.proofs.Choice.{chosen-short}
 use Rattle.files.specs.Files.{blockIn, rowAt, fileTests}
 use Rattle.writer.specs.Writer.{bodiesFor}
 use Rattle.writer.proofs.Laying.{bodies-none, bodies-short}
-use Rattle.rewrite.proofs.Rows.{right, few}
+use Rattle.writer.proofs.FileRows.{right, few}
 use Rattle.renumber.specs.declared.Measured.{Measured}
 use Rattle.renumber.specs.InnerBlocks.{newBlock, changedIn, BlockMeasured, FileMeasured}
 use Rattle.renumber.specs.InnerPairs.{isKept}

@@ -26,7 +26,7 @@ use Rattle.files.specs.Files.{blockIn, rowAt, rowCount, rowsOf, fileTests}
 use Rattle.writer.specs.Reasons.{Blocks}
 use Rattle.writer.specs.Writer.{blockCount, blockAt, bodiesFor}
 use Rattle.writer.proofs.Laying.{bodies-longer, length-file}
-use Rattle.rewrite.proofs.Rows as Old
+use Rattle.writer.proofs.FileRows as Old
 use Rattle.renumber.specs.InnerBlocks.{newBlock, takenIn, changedIn}
 use Rattle.renumber.specs.InnerPairs.{isKept}
 use Rattle.renumber.specs.Pairs.{renumbered, isFree}

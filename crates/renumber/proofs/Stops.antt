@@ -18,7 +18,7 @@ use Rattle.bodies.specs.Ranges.{trueRange, isRange}
 use Rattle.bodywise.proofs.Told.{edition-read, range-read}
 use Rattle.files.specs.Files.{blockIn, fileTests, hasTrueRange}
 use Rattle.files.proofs.Ranges.{ranges-true}
-use Rattle.rewrite.proofs.Rows.{right}
+use Rattle.writer.proofs.FileRows.{right}
 use Rattle.renumber.specs.Pairs.{risesAt, unrisingAt, isOrderedAt, disorderedAt, isAlone, twiceAt}
 
 pub unrising-le : (old : List ℕ) → unrisingAt old ≤ length old

@@ -17,7 +17,7 @@ use Prim.Native.Nat.{ℕ, _+_, _-_, _≤_, _<_}
 use Rattle.contents.specs.Contents.{count, entrySize, contentsSize}
 use mathlib.Core.List.{List, _++_}
 use native.Mathlib.Numerals.{add-one}
-use Rattle.rewrite.proofs.Rows.{right, few}
+use Rattle.writer.proofs.FileRows.{right, few}
 use Rattle.candidates.specs.Candidates.{bodyFor}
 use Rattle.renumber.specs.Renumber.{newRows}
 use borrow.Author.Needs.{needs}

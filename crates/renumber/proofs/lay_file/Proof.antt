@@ -3,7 +3,7 @@
 use mathlib.Core.Path.{_≡_, sym, ap, _∙_}
 use Rattle.contents.specs.Bytes.{headBytes, headLeaves}
 use Rattle.contents.proofs.Bytes.{head-fits}
-use Rattle.rewrite.proofs.Rows.{right, few}
+use Rattle.writer.proofs.FileRows.{right, few}
 use Rattle.writer.proofs.Laying.{file-laid}
 use Rattle.contents.specs.Contents.{count, entrySize, contentsSize}
 use denote.Ref.{now}

@@ -3,7 +3,7 @@
 -- Assumes nothing.
 use mathlib.Core.Path.{_≡_, sym, ap, _∙_}
 use Rattle.writer.proofs.Laying.{one-written}
-use Rattle.rewrite.proofs.Rows.{few, block-laid}
+use Rattle.writer.proofs.FileRows.{few, block-laid}
 use Prim.Native.Nat.{_-_}
 use borrow.Rule.Slice.PartMut.{midOf}
 use denote.Ref.{now}

@@ -8,7 +8,7 @@ use Rattle.bodywise.proofs.Told.{count-read}
 use Rattle.lists.specs.Numbers.{Elements}
 use Rattle.renumber.proofs.Measuring.{Measuring, measuring-first, measuring-next, measuring-taken, measuring-all, size-small, changed-small, number-small, block-sized, block-changed}
 use Rattle.bodywise.proofs.Walking.{file-number}
-use Rattle.rewrite.proofs.Rows.{right, few, block-long}
+use Rattle.writer.proofs.FileRows.{right, few, block-long}
 use borrow.Author.Needs.{needs}
 use native.Mathlib.Omega.{arith}
 use Rattle.renumber.proofs.measure.Statement.{statement}

@@ -1,7 +1,7 @@
 -- `renumber::measure_one` meets its contract: the block is laid down over zeros, replaced and measured.
 -- Assumes nothing.
 use mathlib.Core.Path.{_≡_, sym, ap, _∙_}
-use Rattle.rewrite.proofs.Rows.{block-laid}
+use Rattle.writer.proofs.FileRows.{block-laid}
 use Rattle.renumber.specs.InnerBlocks.{newBlock, takenIn, changedIn}
 use denote.Ref.{now}
 use Rattle.candidates.specs.Calls.{entryFor}

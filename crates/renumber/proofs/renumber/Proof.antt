@@ -2,7 +2,7 @@
 -- Assumes nothing.
 use Rattle.contents.specs.Answers as Answers
 use Rattle.renumber.specs.declared.Renumbered.the-variants.{Length}
-use Rattle.rewrite.proofs.Rows.{right, few}
+use Rattle.writer.proofs.FileRows.{right, few}
 use Rattle.files.specs.Files.{rowCount, fileTests}
 use Rattle.renumber.specs.declared.RenumberAnswer.the-variants.{File, Taken}
 use Rattle.renumber.specs.InnerPairs.{Paired}

@@ -20,7 +20,7 @@ use Rattle.bodywise.proofs.Walking.{Walking, file-first, file-zero, file-number
 use Rattle.writer.specs.InnerKept.{KeptAt, Rooms}
 use Rattle.writer.specs.Writer.{blockAt, entriesFor, bodiesFor}
 use Rattle.writer.proofs.Laying.{writtenEntry, bodies-none, bodies-short, bodies-within, laidTo, laid-none, laid-next, laid-length, laid-all}
-use Rattle.rewrite.proofs.Rows.{right, few, length-new, block-long, block-at, body-next, runs-laid}
+use Rattle.writer.proofs.FileRows.{right, few, length-new, block-long, block-at, body-next, runs-laid}
 use Rattle.rewrite.proofs.lay_blocks.Statement.{statement}
 use Rattle.rewrite.proofs.lay_blocks.Tie as tie
 

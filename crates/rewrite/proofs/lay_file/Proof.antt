@@ -13,7 +13,7 @@ use Rattle.files.specs.Files.{rowsOf}
 use Rattle.bodywise.proofs.Told.{count-read}
 use Rattle.writer.specs.Writer.{entriesFor, bodiesFor}
 use Rattle.writer.proofs.Laying.{file-laid}
-use Rattle.rewrite.proofs.Rows.{right, few, rows-blocks, length-new}
+use Rattle.writer.proofs.FileRows.{right, few, rows-blocks, length-new}
 use Rattle.rewrite.proofs.lay_file.Statement.{statement}
 use Rattle.rewrite.proofs.lay_file.Tie as tie
 

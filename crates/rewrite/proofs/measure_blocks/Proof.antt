@@ -24,7 +24,7 @@ use Rattle.writer.proofs.Keeping.{kept-next, kept-length}
 use Rattle.writer.proofs.Laying.{bodies-none, bodies-short}
 use Rattle.rewrite.specs.Rewrite.{newFile}
 use Rattle.rewrite.proofs.Calls.{by-ranges, by-false}
-use Rattle.rewrite.proofs.Rows.{runs-few, runs-length, runs-next}
+use Rattle.writer.proofs.FileRows.{runs-few, runs-length, runs-next}
 use Rattle.rewrite.proofs.measure_blocks.Statement.{statement}
 use Rattle.rewrite.proofs.measure_blocks.Tie as tie
 

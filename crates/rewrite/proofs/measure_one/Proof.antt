@@ -13,7 +13,7 @@ use Rattle.candidates.specs.Candidates.{chosen, differences}
 use Rattle.candidates.specs.Widths.{widthOf}
 use Rattle.candidates.proofs.Calls.{measured-there}
 use Rattle.files.specs.Files.{blockIn}
-use Rattle.rewrite.proofs.Rows.{runs-few, runs-block, runs-laid}
+use Rattle.writer.proofs.FileRows.{runs-few, runs-block, runs-laid}
 use borrow.Author.Needs.{needs}
 use Rattle.rewrite.proofs.measure_one.Statement.{statement}
 use Rattle.rewrite.proofs.measure_one.Tie as tie
