@@ -22,7 +22,8 @@ use Rattle.contents.specs.declared.FileAnswer.the-variants.{Done}
 use Rattle.contents.specs.Answers.{fileAnswer}
 use Rattle.contents.specs.Contents.{count, contentsSize}
 use Rattle.candidates.specs.Candidates.{chosen}
-use Rattle.files.specs.Files.{blockIn, rowAt, rowCount, rowsOf, fileTests}
+use Rattle.files.specs.Files.{blockIn, rowAt, rowCount, rowsOf, runsTests}
+use Rattle.files.proofs.Rows.{rows-count, rows-block}
 use Rattle.writer.specs.Reasons.{Blocks}
 use Rattle.writer.specs.Writer.{blockCount, blockAt, bodiesFor}
 use Rattle.writer.proofs.Laying.{bodies-longer, length-file}
@@ -50,37 +51,56 @@ module _ (old new l : List ℕ) where
   unfolding newRows
   getD-rows p h = getD-map (renumbered old new) (rowsOf l) p h
 
-module _ (old new l : List ℕ) (done : fileAnswer (fileTests l) ≡ Done) where
   -- The rows are as many as those of the old file,
   pub rows-long : length (newRows old new l) ≡ count l * 1024
-  rows-long = length-rows old new l ∙ Old.rows-long l done
+  rows-long = omega (arith, length-rows, rows-count l)
 
   pub rows-blocks : blockCount (newRows old new l) ≡ count l
   rows-blocks = omega (arith, rows-long)
-
-  pub rows-whole : Blocks (newRows old new l)
-  rows-whole = record { n = count l; whole = rows-long; few = Old.few l done }
 
   -- and the new file has this length.
   pub length-new : length (newFile old new l) ≡ contentsSize 2 (count l) + length (bodiesFor (newRows old new l) (count l))
   length-new =
       length-file (newRows old new l) ∙ ap (λ n. contentsSize 2 n + length (bodiesFor (newRows old new l) n)) rows-blocks
 
+  -- After all blocks no row is taken
+  pub none-taken : (n : ℕ) → n ≡ count l → ((p : ℕ) → p < n * 1024 → isFree old new (rowAt l p) ≡ true) → n * 1024 ≡ takenAt old new l
+  unfolding takenAt
+  none-taken n all before =
+      first-only (rowCount l) (n * 1024) (λ p. isFree old new (rowAt l p)) (omega arith) before (λ h. absurd (omega arith))
+
+  -- and these change.
+  pub all-changed : (n : ℕ) → n ≡ count l → length (failingFrom 0 (n * 1024) (λ p. isKept old new (rowAt l p))) ≡ length (changedRows old new l)
+  unfolding changedRows
+  all-changed n all =
+      let e : n * 1024 ≡ 1024 * count l = omega arith in ap (λ m. length (failingFrom 0 m (λ p. isKept old new (rowAt l p)))) e
+
+  pub changed-few : (n : ℕ) → length (failingFrom 0 n (λ p. isKept old new (rowAt l p))) ≤ n
+  changed-few n = failing-few 0 n (λ p. isKept old new (rowAt l p))
+
+-- Of a file that is right up to its run indices:
+module _ (old new l : List ℕ) (runs : fileAnswer (runsTests l) ≡ Done) where
+  pub rows-whole : Blocks (newRows old new l)
+  rows-whole = record { n = count l; whole = rows-long old new l; few = Old.runs-few l runs }
+
   module _ (bytes : Elements 8 l) (i : ℕ) (h : i < count l) where
+    old-long : length (blockIn l i) ≡ 1024
+    old-long = Old.runs-block l runs bytes i h .0
+
     pub block-long : length (newBlock old new (blockIn l i)) ≡ 1024
-    block-long = length-block old new (blockIn l i) ∙ Old.block-long l done bytes i h
+    block-long = length-block old new (blockIn l i) ∙ old-long
 
     -- A block of them is a block of the old file, renumbered.
     pub block-at : blockAt (newRows old new l) i ≡ newBlock old new (blockIn l i)
     block-at =
         is-tab (cut 1024 (newRows old new l) i) 1024 (λ k. renumbered old new (getD (blockIn l i) k 0)) 0
-        (length-cut 1024 (newRows old new l) i (omega (arith, rows-long)))
+        (length-cut 1024 (newRows old new l) i (omega (arith, rows-long old new l)))
         (λ k m.
         getD-cut 1024 (newRows old new l) i k 0 m
-        ∙ getD-rows old new l (i * 1024 + k) (omega (arith, Old.rows-long l done))
+        ∙ getD-rows old new l (i * 1024 + k) (omega (arith, rows-count l))
         ∙ ap (renumbered old new)
-        (sym (getD-cut 1024 (rowsOf l) i k 0 m) ∙ ap (λ b. getD b k 0) (Old.block-at l done bytes i h)))
-        ∙ ap (λ n. tab n (λ k. renumbered old new (getD (blockIn l i) k 0))) (sym (Old.block-long l done bytes i h))
+        (sym (getD-cut 1024 (rowsOf l) i k 0 m) ∙ ap (λ b. getD b k 0) (rows-block l i h old-long)))
+        ∙ ap (λ n. tab n (λ k. renumbered old new (getD (blockIn l i) k 0))) (sym (old-long))
         ∙ sym (block-tab old new (blockIn l i))
 
     -- One body more of the new file.
@@ -110,7 +130,7 @@ module _ (old new l : List ℕ) (done : fileAnswer (fileTests l) ≡ Done) where
         ∙ ap (λ n. length (failingFrom 0 (i * 1024) test) + n)
         (ap length here
         ∙ length-map (failingFrom 0 1024 (λ k. isKept old new (getD (blockIn l i) k 0))) (λ p. i * 1024 + p)
-        ∙ ap (λ n. length (failingFrom 0 n (λ k. isKept old new (getD (blockIn l i) k 0)))) (sym (Old.block-long l done bytes i h)))
+        ∙ ap (λ n. length (failingFrom 0 n (λ k. isKept old new (getD (blockIn l i) k 0)))) (sym (old-long)))
 
     module _ (before : (p : ℕ) → p < i * 1024 → isFree old new (rowAt l p) ≡ true) where
       -- A block in which no place is taken: no row up to its end is.
@@ -130,7 +150,7 @@ module _ (old new l : List ℕ) (done : fileAnswer (fileTests l) ≡ Done) where
       pub row-taken : (m : ℕ) → m ≡ takenIn old new (blockIn l i) → m < 1024 → i * 1024 + m ≡ takenAt old new l
       unfolding takenIn takenAt
       row-taken m found some =
-          let long = Old.block-long l done bytes i h in
+          let long = old-long in
           first-only (rowCount l) (i * 1024 + m) (λ p. isFree old new (rowAt l p)) (omega arith)
           (λ p b.
           elim (decLt p (i * 1024)) [
@@ -145,18 +165,3 @@ module _ (old new l : List ℕ) (done : fileAnswer (fileTests l) ≡ Done) where
           ap (isFree old new) (row-of l i m some)
           ∙ ap (λ k. isFree old new (getD (blockIn l i) k 0)) found
           ∙ first-at (length (blockIn l i)) (λ k. isFree old new (getD (blockIn l i) k 0)) (omega arith))
-
-  -- After all blocks no row is taken,
-  pub none-taken : (n : ℕ) → n ≡ count l → ((p : ℕ) → p < n * 1024 → isFree old new (rowAt l p) ≡ true) → n * 1024 ≡ takenAt old new l
-  unfolding takenAt
-  none-taken n all before =
-      first-only (rowCount l) (n * 1024) (λ p. isFree old new (rowAt l p)) (omega arith) before (λ h. absurd (omega arith))
-
-  -- and these change.
-  pub all-changed : (n : ℕ) → n ≡ count l → length (failingFrom 0 (n * 1024) (λ p. isKept old new (rowAt l p))) ≡ length (changedRows old new l)
-  unfolding changedRows
-  all-changed n all =
-      let e : n * 1024 ≡ 1024 * count l = omega arith in ap (λ m. length (failingFrom 0 m (λ p. isKept old new (rowAt l p)))) e
-
-  pub changed-few : (n : ℕ) → length (failingFrom 0 n (λ p. isKept old new (rowAt l p))) ≤ n
-  changed-few n = failing-few 0 n (λ p. isKept old new (rowAt l p))
