@@ -5,13 +5,12 @@ use mathlib.Core.Bool.{Bool, true, false}
 use mathlib.Core.List.{List}
 use mathlib.Core.Path.{_≡_, refl, sym, ap, ap₂, _∙_}
 use Prim.Native.Nat.{ℕ, _+_, _*_, _≤_, _<_}
-use native.Mathlib.Decide.{decLt, ℕ-discrete}
+use native.Mathlib.Decide.{decLt}
 use native.Mathlib.Omega.{arith}
 use lib.Dec.{eqb}
 use lib.ListN.{length, getD, set, length-set}
 use lib.Seq.{getD-set-same, getD-set-other}
 use borrow.Author.Tests.{eq-eqb, eqb-true}
-use Rattle.lists.specs.Ends.{lowestOf, highestOf}
 use Rattle.lists.specs.Numbers.{Elements}
 use Rattle.lists.specs.Passing.{failingFrom, passing}
 use Rattle.lists.specs.Pick.{pick, both}
@@ -24,8 +23,6 @@ use Rattle.contents.specs.Contents.{count, entrySize, contentsSize}
 use Rattle.bodywise.specs.declared.Body.{Body}
 use Rattle.bodywise.specs.Cursor.{firstBody, nextBody}
 use Rattle.bodywise.proofs.Walking.{Walking, file-first, file-zero, file-number, file-next, file-passed}
-use Rattle.candidates.specs.Candidates.{differences}
-use Rattle.candidates.specs.Widths.{widthOf}
 use Rattle.candidates.proofs.Choice.{chosen-short}
 use Rattle.files.specs.Files.{blockIn, rowAt, hasTrueRange, badRange, runsTests}
 use Rattle.files.proofs.Ranges.{contents-right, file-ranges, ranges-done, ranges-true}
@@ -176,13 +173,10 @@ module _ (old new l : List ℕ) (runs : fileAnswer (runsTests l) ≡ Done) where
             free = λ p h. free-next old new l runs bytes (b .number) there (so .free) (omega (arith, none)) p (omega (arith, number));
             ranged = file-passed l right fits (so .walk) there step (so .ranged) (passed .0);
             block-long = block-long;
-            kept-long =
-                ap length keeps
-                ∙ kept-length kept (b .number * 3) (lowestOf (newBlock old new (blockIn l (b .number)))) (highestOf (newBlock old new (blockIn l (b .number)))) (widthOf (differences (newBlock old new (blockIn l (b .number)))))
-                ∙ so .kept-long;
+            kept-long = ap length keeps ∙ kept-length kept (b .number * 3) _ _ _ ∙ so .kept-long;
             kept-of = λ k h.
                 kept-next {block = λ i. newBlock old new (blockIn l i)} (so .kept-of) (so .kept-long) (omega (arith, there, runs-few l runs)) refl refl refl keeps k (omega (arith, number));
-            counts-long = ap length counts-is ∙ length-set counts (b .number) (length (changedIn old new (blockIn l (b .number)))) ∙ so .counts-long;
+            counts-long = ap length counts-is ∙ length-set counts (b .number) _ ∙ so .counts-long;
             counts-of = λ k h. counted-next old new l counts (b .number) (so .counts-of) (omega (arith, so .counts-long, there, runs-few l runs)) counts-is k (omega (arith, number));
           }
 

@@ -246,21 +246,12 @@ fn measure_blocks(
     let mut changed = 0;
     let mut body = bodywise::first(file);
     while body.number < n {
-        let one = measure_one(
-            file,
-            body.number,
-            body.at,
-            old,
-            new,
-            order,
-            &mut block,
-            kept,
-            counts,
-        );
+        let i = body.number;
+        let one = measure_one(file, i, body.at, old, new, order, &mut block, kept, counts);
         if !one.passes {
             return Found {
                 passes: false,
-                taken: body.number * 1024 + one.taken,
+                taken: i * 1024 + one.taken,
                 size: 0,
                 changed: 0,
             };

@@ -89,29 +89,29 @@ small c =
     let args = started (walked c) .args in
     number-small (now (args .old)) (now (args .new)) (now (args .file)) (started (walked c) .pre .0) (walked c .loop .inv)
 
-mul-t22 : tie.Need-mul-t22 Inv-loop μ-loop
-mul-t22 c = omega (arith, small (c .before .before .before .before .before .before .before .before))
+mul-t23 : tie.Need-mul-t23 Inv-loop μ-loop
+mul-t23 c = omega (arith, small (c .before .before .before .before .before .before .before))
 
-add-t23 : tie.Need-add-t23 Inv-loop μ-loop
-add-t23 c = omega (arith, small (c .before .before .before .before .before .before .before .before .before), taken-small (c .before .before .before .before .before .before .before .before .before))
+add-t24 : tie.Need-add-t24 Inv-loop μ-loop
+add-t24 c = omega (arith, small (c .before .before .before .before .before .before .before .before), taken-small (c .before .before .before .before .before .before .before .before))
 
 same-length : tie.Need-same-length Inv-loop μ-loop
 same-length c =
-    let one = c .before .before .before .before .before .before .before .before .before in
+    let one = c .before .before .before .before .before .before .before .before in
     let at-loop = walked one in
     omega (arith, ap length (one .measure-one .ensures .1 .0) ∙ kept-length (at-loop .loop .kept) (at-loop .loop .body .number * 3) _ _ _, at-loop .loop .inv .kept-long, started at-loop .pre .1 .1 .0)
 
 same-length-2 : tie.Need-same-length-2 Inv-loop μ-loop
 same-length-2 c =
-    let one = c .before .before .before .before .before .before .before .before .before in
+    let one = c .before .before .before .before .before .before .before .before in
     let at-loop = walked one in
     omega (arith, ap length (one .measure-one .ensures .1 .1) ∙ length-set (at-loop .loop .counts) (at-loop .loop .body .number) _, at-loop .loop .inv .counts-long, started at-loop .pre .1 .1 .1)
 
 returns : tie.Need-returns Inv-loop μ-loop
 returns c =
-    let one = c .before .before .before .before .before .before .before .before .before in
+    let one = c .before .before .before .before .before .before .before .before in
     let start = started (walked one) in
-    measuring-stops (now (start .args .old)) (now (start .args .new)) (now (start .args .file)) (start .pre .0) (walked one .loop .inv) (elements one) (more one) (one .measure-one .ensures .0) (not-true _ (c .before .before .if2 .taken))
+    measuring-stops (now (start .args .old)) (now (start .args .new)) (now (start .args .file)) (start .pre .0) (walked one .loop .inv) (elements one) (more one) (one .measure-one .ensures .0) (not-true _ (c .before .if2 .taken))
 
 add-size-2 : tie.Need-add-size-2 Inv-loop μ-loop
 add-size-2 c =
@@ -153,8 +153,8 @@ loop-again c =
     let start = started (walked one) in
     measuring-next (now (start .args .old)) (now (start .args .new)) (now (start .args .file)) (start .pre .0) (walked one .loop .inv) (elements one) (more one) (one .measure-one .ensures .0) (not-false _ (c .before .before .before .if2 .left)) (short (walked one)) (c .next .ensures) (omega (arith, c .before .before .before .before .before .before .before .before .before .block2 .given)) (one .measure-one .ensures .1 .0) (one .measure-one .ensures .1 .1)
 
-mul-t14 : tie.Need-mul-t14 Inv-loop μ-loop
-mul-t14 c = omega (arith, few-are (c .before .before .before .before))
+mul-t15 : tie.Need-mul-t15 Inv-loop μ-loop
+mul-t15 c = omega (arith, few-are (c .before .before .before .before))
 
 same-length-3 : tie.Need-same-length-3 Inv-loop μ-loop
 same-length-3 c = let at-loop = c .before .before in omega (arith, at-loop .loop .inv .kept-long, started at-loop .pre .1 .1 .0)
@@ -181,8 +181,8 @@ measure-blocks-spec =
     loop-holds
     slice-aggregate-measure-one
     measure-one-requires
-    mul-t22
-    add-t23
+    mul-t23
+    add-t24
     same-length
     same-length-2
     returns
@@ -191,7 +191,7 @@ measure-blocks-spec =
     next-requires
     loop-less
     loop-again
-    mul-t14
+    mul-t15
     same-length-3
     same-length-4
     returns-2)

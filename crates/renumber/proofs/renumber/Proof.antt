@@ -1,7 +1,7 @@
 -- `renumber::renumber` meets its contract: by the tests, and then the new file is laid down by what was kept of its blocks.
 -- Assumes nothing.
 use mathlib.Core.Bool.{true}
-use mathlib.Core.Path.{_≡_, sym, ap, ap₂, _∙_}
+use mathlib.Core.Path.{_≡_, sym, ap₂, _∙_}
 use native.Mathlib.Omega.{arith}
 use denote.Ref.{now}
 use lib.ListN.{length}
@@ -14,7 +14,6 @@ use Rattle.contents.proofs.Answers as Done
 use Rattle.files.specs.Files.{runsTests}
 use Rattle.renumber.specs.declared.RenumberAnswer.the-variants.{File, Taken}
 use Rattle.renumber.specs.declared.Renumbered.the-variants.{Length}
-use Rattle.renumber.specs.InnerBlocks.{FileFound}
 use Rattle.renumber.specs.InnerPairs.{Paired}
 use Rattle.renumber.specs.Renumber.{numberOf, newFile, listAnswer}
 use Rattle.renumber.proofs.Calls.{refused, runs-stop, else-stops, lists-stop, row-stops, room-stops, nothing-stops, written}
