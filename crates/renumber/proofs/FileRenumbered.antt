@@ -35,6 +35,7 @@ use Rattle.bodies.specs.Bodies.{blockOf, wordsFrom}
 use Rattle.candidates.specs.Candidates.{chosen, baseOf}
 use Rattle.candidates.proofs.Choice.{chosen-kind}
 use Rattle.files.specs.Files.{blockIn, rowAt, rowCount, rowsOf, fileTests}
+use Rattle.files.proofs.Ranges.{file-runs}
 use Rattle.files.proofs.Rows.{rows-count, rows-fit}
 use Rattle.writer.specs.Writer.{fileOf}
 use Rattle.writer.proofs.FileRows as Old
@@ -158,17 +159,17 @@ module _ (old new l : List ℕ) (bytes : Elements 8 l) (news : Elements t64 new)
 
   -- The new file is accepted, it is of edition 2 and has as many blocks,
   pub new-accepted : fileAnswer (fileTests (newFile old new l)) ≡ Done
-  new-accepted = file-accepted (newRows old new l) (count l) (rows-long old new l done) (Old.few l done) new-fits
+  new-accepted = file-accepted (newRows old new l) (count l) (rows-long old new l) (Old.few l done) new-fits
 
   pub new-edition : edition (newFile old new l) ≡ 2
-  new-edition = edition-is (newRows old new l) (count l) (rows-long old new l done) (Old.few l done) new-fits
+  new-edition = edition-is (newRows old new l) (count l) (rows-long old new l) (Old.few l done) new-fits
 
   pub new-count : count (newFile old new l) ≡ count l
-  new-count = count-is (newRows old new l) (count l) (rows-long old new l done) (Old.few l done) new-fits
+  new-count = count-is (newRows old new l) (count l) (rows-long old new l) (Old.few l done) new-fits
 
   -- and its rows are those of the old one, renumbered.
   pub new-rows : rowsOf (newFile old new l) ≡ newRows old new l
-  new-rows = rows-read (newRows old new l) (count l) (rows-long old new l done) (Old.few l done) new-fits
+  new-rows = rows-read (newRows old new l) (count l) (rows-long old new l) (Old.few l done) new-fits
 
   pub new-row : (p : ℕ) → p < rowCount l → rowAt (newFile old new l) p ≡ renumbered old new (rowAt l p)
   new-row p h =
@@ -227,8 +228,8 @@ module _ (old new l : List ℕ) (bytes : Elements 8 l) (news : Elements t64 new)
   module _ (i : ℕ) (h : i < count l) where
     pub new-entry : entryOf (newFile old new l) i ≡ chosen (newBlock old new (blockIn l i)) .entry
     new-entry =
-        entry-read (newRows old new l) (count l) (rows-long old new l done) (Old.few l done) new-fits i h
-        ∙ ap (λ b. chosen b .entry) (block-at old new l done bytes i h)
+        entry-read (newRows old new l) (count l) (rows-long old new l) (Old.few l done) new-fits i h
+        ∙ ap (λ b. chosen b .entry) (block-at old new l (file-runs l done) bytes i h)
 
     pub new-kind : entryOf (newFile old new l) i .kind ≤ 2
     new-kind = subst (λ e. e .kind ≤ 2) (sym new-entry) (chosen-kind (newBlock old new (blockIn l i)))
@@ -237,8 +238,8 @@ module _ (old new l : List ℕ) (bytes : Elements 8 l) (news : Elements t64 new)
         → (e .kind ≡ 2 → wordsFrom body 0 (lanes t64) ≡ baseOf (newBlock old new (blockIn l i))) → blockOf e body ≡ newBlock old new (blockIn l i)
         → entryOf (newFile old new l) i .width ≤ e .width
     new-least e body kind reference base same =
-        let at = block-at old new l done bytes i h in
-        block-least (newRows old new l) (record { n = count l; whole = rows-long old new l done; few = Old.few l done }) new-fits i h e body kind reference (λ k. base k ∙ ap baseOf (sym at)) (same ∙ sym at)
+        let at = block-at old new l (file-runs l done) bytes i h in
+        block-least (newRows old new l) (record { n = count l; whole = rows-long old new l; few = Old.few l done }) new-fits i h e body kind reference (λ k. base k ∙ ap baseOf (sym at)) (same ∙ sym at)
 
 -- A call that is done counts exactly the rows that `changes` lists.
 pub counts-changes : (l old new order output : List ℕ) → Elements 8 l → Elements t64 new → renumberAnswer l old new order output ≡ File Done
