@@ -34,7 +34,7 @@ use Rattle.writer.specs.Writer.{fileOf}
 use Rattle.writer.proofs.ReadBack.{edition-is, range-read, body-read, file-accepted}
 use Rattle.rewrite.specs.Rewrite.{newFile}
 use Rattle.rewrite.proofs.FileRewritten.{rewrite-same, rewrite-twice, new-accepted, new-edition, new-count, new-entry}
-use Rattle.rewrite.proofs.Rows.{right, few, rows-long, rows-whole, block-at}
+use Rattle.writer.proofs.FileRows.{right, few, rows-long, rows-whole, block-at}
 use Rattle.canonical.specs.Canonical.{isSameEntry, isSameList, isOurs, foreign, canonicalTests}
 use Rattle.canonical.specs.Reasons.{Ours, CanonicalReason, of-file, first-edition, a-foreign, as-ours}
 use Rattle.canonical.proofs.Calls.{not-read, not-second, is-foreign, none-foreign}

@@ -5,6 +5,7 @@ use mathlib.Core.Bool.{true, false}
 use mathlib.Core.List.{List, [], _∷_, map}
 use mathlib.Core.Path.{_≡_, refl, sym, ap, _∙_}
 use Prim.Native.Nat.{ℕ, zero, suc, _+_, _≤_, _<_}
+use native.Mathlib.Decide.{ℕ-discrete}
 use native.Mathlib.Nat.{le-of-suc-le-suc, zero-add}
 use native.Mathlib.Omega.{arith}
 use lib.ListN.{length, getD, set, length-map, length-append}
@@ -14,10 +15,10 @@ use Rattle.lists.specs.Ends.{lowestOf, highestOf}
 use Rattle.lists.specs.Members.{Rising}
 use Rattle.lists.specs.Passing.{failingFrom, passing}
 use Rattle.lists.specs.Tab.{tab}
-use Rattle.lists.proofs.Failing.{failing-passed, failing-failed, failing-none, failing-few}
+use Rattle.lists.proofs.Failing.{failing-passed, failing-failed, failing-none, failing-few, failing-all}
 use Rattle.lists.proofs.Highs.{highest-bound}
 use Rattle.lists.proofs.Lows.{lowest-bound}
-use Rattle.lists.proofs.Search.{first-only}
+use Rattle.lists.proofs.Search.{first-only, first-le}
 use Rattle.lists.proofs.Tabs.{Written, written-none, written-next, written-later, written-length, written-all, is-tab}
 use Rattle.renumber.specs.InnerBlocks.{newBlock, takenIn, changedIn}
 use Rattle.renumber.specs.InnerPairs.{Paired, meetsIn, isKept}
@@ -42,6 +43,21 @@ module _ (old new block : List ℕ) where
   pub block-tab : newBlock old new block ≡ tab (length block) (λ k. renumbered old new (getD block k 0))
   block-tab = is-tab (newBlock old new block) (length block) (λ k. renumbered old new (getD block k 0)) 0 length-block getD-block
 
+  -- Where every number stays the block does,
+  pub same-block : ((k : ℕ) → k < length block → getD block k 0 ≡ renumbered old new (getD block k 0)) → block ≡ newBlock old new block
+  same-block same = ext-getD 0 block (newBlock old new block) (sym length-block) (λ k h. same k h ∙ sym (getD-block k h))
+
+  -- and it is so where none is counted that changes.
+  pub unchanged : length (changedIn old new block) ≡ 0 → block ≡ newBlock old new block
+  unfolding changedIn
+  unchanged none = same-block (λ k h.
+      elim (ℕ-discrete (getD block k 0) (renumbered old new (getD block k 0))) [
+        | yes e ↦ e
+        | no n ↦
+            let there = failing-all 0 (length block) (λ k. isKept old new (getD block k 0)) k (omega arith) (omega arith) (ne-eqb _ _ n) in
+            absurd (omega (arith, there .1))
+      ])
+
   -- A number that is not listed stays.
   pub kept : (k : ℕ) → isIn old (getD block k 0) ≡ false → getD block k 0 ≡ renumbered old new (getD block k 0)
   kept k out = stays old new (getD block k 0) (placeIn old (getD block k 0)) refl (ltb-false _ _ out)
@@ -53,7 +69,7 @@ module _ (old new block : List ℕ) where
         kept k (meets-not old (lowestOf block) (highestOf block) rising apart (getD block k 0) (lowest-bound block k h) (highest-bound block k h))
 
     pub replace-skipped : block ≡ newBlock old new block
-    replace-skipped = ext-getD 0 block (newBlock old new block) (sym length-block) (λ k h. all-kept k h ∙ sym (getD-block k h))
+    replace-skipped = same-block all-kept
 
     pub changed-skipped : 0 ≡ length (changedIn old new block)
     unfolding changedIn
@@ -71,6 +87,11 @@ module _ (old new block : List ℕ) where
       (new-along new order (so .order-long ∙ sym (so .new-long)) (so .places) (so .along-rising) x
       ∙ meets-not (along order new) (lowestOf block) (highestOf block) (so .along-rising) apart x (lowest-bound block k h) (highest-bound block k h))))
       (λ h. absurd (omega arith))
+
+  -- No place behind the block is found.
+  pub taken-within : takenIn old new block ≤ length block
+  unfolding takenIn
+  taken-within = first-le (length block) (λ k. isFree old new (getD block k 0))
 
   -- The place at which the search for a taken number stops.
   module _ (i : ℕ) (within : i ≤ length block) (before : (k : ℕ) → k < i → isFree old new (getD block k 0) ≡ true) where

@@ -1,8 +1,9 @@
 -- What the renumbering answers and leaves, by its tests.
 -- Assumes nothing.
 use mathlib.Core.List.{List}
-use mathlib.Core.Path.{_≡_, sym, ap, _∙_}
+use mathlib.Core.Path.{_≡_, refl, sym, ap, _∙_}
 use Prim.Native.Nat.{ℕ, _≤_, _<_}
+use native.Mathlib.Decide.{ℕ-discrete}
 use native.Mathlib.Omega.{arith}
 use borrow.Author.Tests.{eq-eqb, ne-eqb, le-leb, lt-leb}
 use lib.Dec.{eqb, leb}
@@ -14,7 +15,9 @@ use Rattle.contents.specs.declared.FileAnswer.{FileAnswer}
 use Rattle.contents.specs.declared.FileAnswer.the-variants.{Done, Room}
 use Rattle.contents.specs.Answers as Answers
 use Rattle.contents.specs.Answers.{fileAnswer}
-use Rattle.files.specs.Files.{rowAt, rowCount, fileTests}
+use Rattle.contents.proofs.Answers.{number-done}
+use Rattle.files.specs.Files.{rowAt, rowCount, runsTests, fileTests}
+use Rattle.files.proofs.Ranges.{file-refused}
 use Rattle.renumber.specs.declared.RenumberAnswer.{RenumberAnswer}
 use Rattle.renumber.specs.declared.RenumberAnswer.the-variants.{File, Taken}
 use Rattle.renumber.specs.declared.Renumbered.the-variants.{Length, Refused}
@@ -61,6 +64,25 @@ module _ (l old new order output : List ℕ) where
   file-stops a is bad =
       ap (λ b. pick b behind-file (File (fileAnswer (fileTests l)))) (ne-eqb (Answers.numberOf (fileAnswer (fileTests l))) 0 (λ e. bad (ap Answers.numberOf is ∙ e)))
       ∙ ap File (sym is)
+
+  -- Those up to the run indices come first of these,
+  pub runs-stop : (a : FileAnswer) → a ≡ fileAnswer (runsTests l) → (Answers.numberOf a ≡ 0 → ⊥) → renumberAnswer l old new order output ≡ File a
+  runs-stop a is bad = file-stops a (is ∙ sym (file-refused l (λ e. bad (ap Answers.numberOf is ∙ e)))) bad
+
+  -- and where they do not stop the call, what else stops it does so unless a range is false.
+  pub else-stops : (a : RenumberAnswer) → (fileAnswer (fileTests l) ≡ Done → renumberAnswer l old new order output ≡ a) → (numberOf a ≡ 0 → ⊥)
+      → (Refused (pick (Answers.isDone (fileAnswer (fileTests l))) a (File (fileAnswer (fileTests l)))) ≡ renumberedOf l old new order output)
+      × (output ≡ renumberLeaves l old new order output)
+  else-stops a is bad =
+      let file = fileAnswer (fileTests l) in
+      elim (ℕ-discrete (Answers.numberOf file) 0) [
+        | yes z ↦
+            let by = refused a (is (number-done file z)) bad in
+            (ap (λ b. Refused (pick b a (File file))) (eq-eqb (Answers.numberOf file) 0 z) ∙ by .0, by .1)
+        | no n ↦
+            let by = refused (File file) (file-stops file refl n) n in
+            (ap (λ b. Refused (pick b a (File file))) (ne-eqb (Answers.numberOf file) 0 n) ∙ by .0, by .1)
+      ]
 
   module _ (done : fileAnswer (fileTests l) ≡ Done) where
     file-passes : renumberAnswer l old new order output ≡ behind-file

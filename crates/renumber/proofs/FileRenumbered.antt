@@ -1,7 +1,7 @@
 -- What a renumbering does, of an accepted file of bytes and lists of numbers of 64 bits: the new file is accepted and has
 -- as many rows, each of which is as said; a row differs exactly when its number is listed with another new one, so the
 -- changes of the old file and the new one are exactly these rows; and no block is too narrow. A refused call leaves the
--- output as it was, and empty lists give the rewrite.
+-- output as it was, and empty lists leave every row as it is.
 -- Assumes nothing.
 use mathlib.Core.Bool.{Bool, true, false}
 use mathlib.Core.List.{List, [], map}
@@ -35,16 +35,13 @@ use Rattle.bodies.specs.Bodies.{blockOf, wordsFrom}
 use Rattle.candidates.specs.Candidates.{chosen, baseOf}
 use Rattle.candidates.proofs.Choice.{chosen-kind}
 use Rattle.files.specs.Files.{blockIn, rowAt, rowCount, rowsOf, fileTests}
+use Rattle.files.proofs.Ranges.{file-runs}
 use Rattle.files.proofs.Rows.{rows-count, rows-fit}
-use Rattle.writer.specs.declared.Written.the-variants as Written
 use Rattle.writer.specs.Writer.{fileOf}
-use Rattle.writer.specs.Writer as Writer
+use Rattle.writer.proofs.FileRows as Old
 use Rattle.writer.proofs.FileWritten.{block-least}
 use Rattle.writer.proofs.ReadBack.{edition-is, count-is, entry-read, file-accepted, rows-read}
 use Rattle.compare.specs.Changes.{rowsInBoth, isSameRow, changeOf, changesOf}
-use Rattle.rewrite.specs.Rewrite as Rewrite
-use Rattle.rewrite.proofs.Calls as Rewrites
-use Rattle.rewrite.proofs.Rows as Old
 use Rattle.renumber.specs.declared.RenumberAnswer.{RenumberAnswer}
 use Rattle.renumber.specs.declared.RenumberAnswer.the-variants.{File}
 use Rattle.renumber.specs.declared.Renumbered.the-variants.{Length, Refused}
@@ -162,17 +159,17 @@ module _ (old new l : List ℕ) (bytes : Elements 8 l) (news : Elements t64 new)
 
   -- The new file is accepted, it is of edition 2 and has as many blocks,
   pub new-accepted : fileAnswer (fileTests (newFile old new l)) ≡ Done
-  new-accepted = file-accepted (newRows old new l) (count l) (rows-long old new l done) (Old.few l done) new-fits
+  new-accepted = file-accepted (newRows old new l) (count l) (rows-long old new l) (Old.few l done) new-fits
 
   pub new-edition : edition (newFile old new l) ≡ 2
-  new-edition = edition-is (newRows old new l) (count l) (rows-long old new l done) (Old.few l done) new-fits
+  new-edition = edition-is (newRows old new l) (count l) (rows-long old new l) (Old.few l done) new-fits
 
   pub new-count : count (newFile old new l) ≡ count l
-  new-count = count-is (newRows old new l) (count l) (rows-long old new l done) (Old.few l done) new-fits
+  new-count = count-is (newRows old new l) (count l) (rows-long old new l) (Old.few l done) new-fits
 
   -- and its rows are those of the old one, renumbered.
   pub new-rows : rowsOf (newFile old new l) ≡ newRows old new l
-  new-rows = rows-read (newRows old new l) (count l) (rows-long old new l done) (Old.few l done) new-fits
+  new-rows = rows-read (newRows old new l) (count l) (rows-long old new l) (Old.few l done) new-fits
 
   pub new-row : (p : ℕ) → p < rowCount l → rowAt (newFile old new l) p ≡ renumbered old new (rowAt l p)
   new-row p h =
@@ -231,8 +228,8 @@ module _ (old new l : List ℕ) (bytes : Elements 8 l) (news : Elements t64 new)
   module _ (i : ℕ) (h : i < count l) where
     pub new-entry : entryOf (newFile old new l) i ≡ chosen (newBlock old new (blockIn l i)) .entry
     new-entry =
-        entry-read (newRows old new l) (count l) (rows-long old new l done) (Old.few l done) new-fits i h
-        ∙ ap (λ b. chosen b .entry) (block-at old new l done bytes i h)
+        entry-read (newRows old new l) (count l) (rows-long old new l) (Old.few l done) new-fits i h
+        ∙ ap (λ b. chosen b .entry) (block-at old new l (file-runs l done) bytes i h)
 
     pub new-kind : entryOf (newFile old new l) i .kind ≤ 2
     new-kind = subst (λ e. e .kind ≤ 2) (sym new-entry) (chosen-kind (newBlock old new (blockIn l i)))
@@ -241,8 +238,8 @@ module _ (old new l : List ℕ) (bytes : Elements 8 l) (news : Elements t64 new)
         → (e .kind ≡ 2 → wordsFrom body 0 (lanes t64) ≡ baseOf (newBlock old new (blockIn l i))) → blockOf e body ≡ newBlock old new (blockIn l i)
         → entryOf (newFile old new l) i .width ≤ e .width
     new-least e body kind reference base same =
-        let at = block-at old new l done bytes i h in
-        block-least (newRows old new l) (record { n = count l; whole = rows-long old new l done; few = Old.few l done }) new-fits i h e body kind reference (λ k. base k ∙ ap baseOf (sym at)) (same ∙ sym at)
+        let at = block-at old new l (file-runs l done) bytes i h in
+        block-least (newRows old new l) (record { n = count l; whole = rows-long old new l; few = Old.few l done }) new-fits i h e body kind reference (λ k. base k ∙ ap baseOf (sym at)) (same ∙ sym at)
 
 -- A call that is done counts exactly the rows that `changes` lists.
 pub counts-changes : (l old new order output : List ℕ) → Elements 8 l → Elements t64 new → renumberAnswer l old new order output ≡ File Done
@@ -261,9 +258,10 @@ empty-rows l =
     ext-getD 0 (map (renumbered [] []) (rowsOf l)) (rowsOf l) (length-map (rowsOf l) (renumbered [] []))
     (λ p h. getD-map (renumbered [] []) (rowsOf l) p (omega (arith, length-map (rowsOf l) (renumbered [] []))) ∙ empty-stays (getD (rowsOf l) p 0))
 
-module _ (l output : List ℕ) where
-  -- The new file is that of the rewrite,
-  pub empty-file : newFile [] [] l ≡ Rewrite.newFile l
+-- Of a file and no pairs:
+module _ (l : List ℕ) where
+  -- the new file is the writer's for the rows as they are,
+  pub empty-file : newFile [] [] l ≡ fileOf (rowsOf l)
   empty-file = ap fileOf (empty-rows l)
 
   -- no row changes and none is taken,
@@ -271,55 +269,23 @@ module _ (l output : List ℕ) where
   unfolding changedRows
   empty-changed = failing-none (rowCount l) (λ p. eqb (rowAt l p) (renumbered [] [] (rowAt l p))) (λ p h. eq-eqb _ _ (sym (empty-stays (rowAt l p))))
 
-  empty-lists : listAnswer [] [] [] ≡ File Done
-  empty-lists =
-      sym (lists-done [] [] [] refl refl (omega (arith, unrising-le [])) (omega (arith, disordered-le [] [])) (omega (arith, twice-le [])))
-
-  empty-free : takenAt [] [] l ≡ rowCount l
+  pub empty-free : takenAt [] [] l ≡ rowCount l
   unfolding takenAt
   empty-free = none-fails (rowCount l) (λ p. isFree [] [] (rowAt l p)) (λ p h. free (rowAt l p))
     where
       free : (x : ℕ) → isFree [] [] x ≡ true
       free x = free-tested [] [] x (inr (λ s. omega (arith, s .1)))
 
-  -- and the answer is that of the rewrite.
-  pub empty-answer : renumberAnswer l [] [] [] output ≡ File (fileAnswer (Rewrite.rewriteTests l output))
-  empty-answer =
-      elim (ℕ-discrete (Answers.numberOf (fileAnswer (fileTests l))) 0) [
-        | no bad ↦ file-stops l [] [] [] output (fileAnswer (fileTests l)) refl bad
-            ∙ ap File (sym (Rewrites.bad-file l output (fileAnswer (fileTests l)) refl bad))
-        | yes z ↦
-            let done = Files.number-done (fileAnswer (fileTests l)) z in
-            elim (decLe (length (Rewrite.newFile l)) (length output)) [
-              | yes room ↦ nothing-stops l [] [] [] output done empty-lists empty-free (omega (arith, ap length empty-file))
-                  ∙ ap File (sym (Rewrites.new-room l output done room))
-              | no short ↦ room-stops l [] [] [] output done empty-lists empty-free (omega (arith, ap length empty-file))
-                  ∙ ap File (sym (Rewrites.new-short l output done (omega arith)))
-            ]
-      ]
+-- and the lists are not refused.
+pub empty-lists : listAnswer [] [] [] ≡ File Done
+empty-lists =
+    sym (lists-done [] [] [] refl refl (omega (arith, unrising-le [])) (omega (arith, disordered-le [] [])) (omega (arith, twice-le [])))
 
-  -- So empty lists give and leave what the rewrite gives and leaves.
-  pub empty-leaves : renumberLeaves l [] [] [] output ≡ Rewrite.rewriteLeaves l output
-  unfolding renumberLeaves Rewrite.rewriteLeaves
-  empty-leaves =
-      ap₂ (λ a f. pick (isDone a) (over 0 f output) output) empty-answer empty-file
-
-  pub empty-given : lengthOf (renumberedOf l [] [] [] output) ≡ Writer.lengthOf (Rewrite.rewrittenOf l output)
-  unfolding renumberedOf Rewrite.rewrittenOf
-  empty-given =
-      ap₂ (λ a f. lengthOf (pick (isDone a) (Length (length f) (length (changedRows [] [] l))) (Refused a))) empty-answer empty-file
-      ∙ go (Answers.isDone (fileAnswer (Rewrite.rewriteTests l output))) (fileAnswer (Rewrite.rewriteTests l output))
-    where
-      go : (b : Bool) (a : FileAnswer)
-          → lengthOf (pick b (Length (length (Rewrite.newFile l)) (length (changedRows [] [] l))) (Refused (File a)))
-          ≡ Writer.lengthOf (pick b (Written.Length (length (Rewrite.newFile l))) (Written.Refused a))
-      go true a = refl
-      go false a = refl
-
-  pub empty-counts : changedOf (renumberedOf l [] [] [] output) ≡ 0
-  unfolding renumberedOf
-  empty-counts = go (isDone (renumberAnswer l [] [] [] output)) (renumberAnswer l [] [] [] output)
-    where
-      go : (b : Bool) (a : RenumberAnswer) → changedOf (pick b (Length (length (newFile [] [] l)) (length (changedRows [] [] l))) (Refused a)) ≡ 0
-      go true a = ap length empty-changed
-      go false a = refl
+-- So the count is 0, whatever the answer is.
+pub empty-counts : (l output : List ℕ) → changedOf (renumberedOf l [] [] [] output) ≡ 0
+unfolding renumberedOf
+empty-counts l output = go (isDone (renumberAnswer l [] [] [] output)) (renumberAnswer l [] [] [] output)
+  where
+    go : (b : Bool) (a : RenumberAnswer) → changedOf (pick b (Length (length (newFile [] [] l)) (length (changedRows [] [] l))) (Refused a)) ≡ 0
+    go true a = ap length (empty-changed l)
+    go false a = refl

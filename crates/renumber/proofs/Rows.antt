@@ -1,5 +1,5 @@
--- The rows of the new file, as the writer takes them: whole blocks, at most 256, each of which is a block of the old file
--- renumbered. Where the next body of the new file begins; and what is known of the rows after a block of them.
+-- The rows of the new file, as the writer takes them: whole blocks, each of which is a block of the old file renumbered.
+-- Where the next body of the new file begins; and what is known of the rows after a block of them.
 -- Assumes nothing.
 use mathlib.Core.Bool.{Bool, true}
 use mathlib.Core.List.{List, map}
@@ -22,11 +22,11 @@ use Rattle.contents.specs.declared.FileAnswer.the-variants.{Done}
 use Rattle.contents.specs.Answers.{fileAnswer}
 use Rattle.contents.specs.Contents.{count, contentsSize}
 use Rattle.candidates.specs.Candidates.{chosen}
-use Rattle.files.specs.Files.{blockIn, rowAt, rowCount, rowsOf, fileTests}
-use Rattle.writer.specs.Reasons.{Blocks}
+use Rattle.files.specs.Files.{blockIn, rowAt, rowCount, rowsOf, runsTests}
+use Rattle.files.proofs.Rows.{rows-count, rows-block}
 use Rattle.writer.specs.Writer.{blockCount, blockAt, bodiesFor}
 use Rattle.writer.proofs.Laying.{bodies-longer, length-file}
-use Rattle.rewrite.proofs.Rows as Old
+use Rattle.writer.proofs.FileRows as Old
 use Rattle.renumber.specs.InnerBlocks.{newBlock, takenIn, changedIn}
 use Rattle.renumber.specs.InnerPairs.{isKept}
 use Rattle.renumber.specs.Pairs.{renumbered, isFree}
@@ -50,103 +50,19 @@ module _ (old new l : List ℕ) where
   unfolding newRows
   getD-rows p h = getD-map (renumbered old new) (rowsOf l) p h
 
-module _ (old new l : List ℕ) (done : fileAnswer (fileTests l) ≡ Done) where
   -- The rows are as many as those of the old file,
   pub rows-long : length (newRows old new l) ≡ count l * 1024
-  rows-long = length-rows old new l ∙ Old.rows-long l done
+  rows-long = omega (arith, length-rows, rows-count l)
 
   pub rows-blocks : blockCount (newRows old new l) ≡ count l
   rows-blocks = omega (arith, rows-long)
-
-  pub rows-whole : Blocks (newRows old new l)
-  rows-whole = record { n = count l; whole = rows-long; few = Old.few l done }
 
   -- and the new file has this length.
   pub length-new : length (newFile old new l) ≡ contentsSize 2 (count l) + length (bodiesFor (newRows old new l) (count l))
   length-new =
       length-file (newRows old new l) ∙ ap (λ n. contentsSize 2 n + length (bodiesFor (newRows old new l) n)) rows-blocks
 
-  module _ (bytes : Elements 8 l) (i : ℕ) (h : i < count l) where
-    pub block-long : length (newBlock old new (blockIn l i)) ≡ 1024
-    block-long = length-block old new (blockIn l i) ∙ Old.block-long l done bytes i h
-
-    -- A block of them is a block of the old file, renumbered.
-    pub block-at : blockAt (newRows old new l) i ≡ newBlock old new (blockIn l i)
-    block-at =
-        is-tab (cut 1024 (newRows old new l) i) 1024 (λ k. renumbered old new (getD (blockIn l i) k 0)) 0
-        (length-cut 1024 (newRows old new l) i (omega (arith, rows-long)))
-        (λ k m.
-        getD-cut 1024 (newRows old new l) i k 0 m
-        ∙ getD-rows old new l (i * 1024 + k) (omega (arith, Old.rows-long l done))
-        ∙ ap (renumbered old new)
-        (sym (getD-cut 1024 (rowsOf l) i k 0 m) ∙ ap (λ b. getD b k 0) (Old.block-at l done bytes i h)))
-        ∙ ap (λ n. tab n (λ k. renumbered old new (getD (blockIn l i) k 0))) (sym (Old.block-long l done bytes i h))
-        ∙ sym (block-tab old new (blockIn l i))
-
-    -- One body more of the new file.
-    pub body-next : length (bodiesFor (newRows old new l) (i + 1))
-        ≡ length (bodiesFor (newRows old new l) i) + chosen (newBlock old new (blockIn l i)) .entry .length
-    body-next =
-        ap (λ k. length (bodiesFor (newRows old new l) k)) (add-one i)
-        ∙ bodies-longer (newRows old new l) i
-        ∙ ap (λ b. length (bodiesFor (newRows old new l) i) + chosen b .entry .length) block-at
-
-    -- The rows that change, a block more.
-    pub changed-next : length (failingFrom 0 ((i + 1) * 1024) (λ p. isKept old new (rowAt l p)))
-        ≡ length (failingFrom 0 (i * 1024) (λ p. isKept old new (rowAt l p))) + length (changedIn old new (blockIn l i))
-    unfolding changedIn
-    changed-next =
-        let test : ℕ → Bool = λ p. isKept old new (rowAt l p) in
-        let more : (i + 1) * 1024 ≡ i * 1024 + 1024 = omega arith in
-        let here : failingFrom (0 + i * 1024) 1024 test ≡ map (λ p. i * 1024 + p) (failingFrom 0 1024 (λ k. isKept old new (getD (blockIn l i) k 0))) =
-        ap (λ s. failingFrom s 1024 test) (zero-add (i * 1024) ∙ sym (add-zero (i * 1024)))
-        ∙ failing-shift (i * 1024) 0 1024 test
-        ∙ ap (map (λ p. i * 1024 + p))
-        (failing-ext 0 1024 (λ p. test (i * 1024 + p)) (λ k. isKept old new (getD (blockIn l i) k 0))
-        (λ k _ b. ap (isKept old new) (row-of l i k (omega arith)))) in
-        ap (λ n. length (failingFrom 0 n test)) more
-        ∙ ap length (failing-append 0 (i * 1024) 1024 test)
-        ∙ length-append (failingFrom 0 (i * 1024) test) (failingFrom (0 + i * 1024) 1024 test)
-        ∙ ap (λ n. length (failingFrom 0 (i * 1024) test) + n)
-        (ap length here
-        ∙ length-map (failingFrom 0 1024 (λ k. isKept old new (getD (blockIn l i) k 0))) (λ p. i * 1024 + p)
-        ∙ ap (λ n. length (failingFrom 0 n (λ k. isKept old new (getD (blockIn l i) k 0)))) (sym (Old.block-long l done bytes i h)))
-
-    module _ (before : (p : ℕ) → p < i * 1024 → isFree old new (rowAt l p) ≡ true) where
-      -- A block in which no place is taken: no row up to its end is.
-      pub free-next : 1024 ≤ takenIn old new (blockIn l i) → (p : ℕ) → p < (i + 1) * 1024 → isFree old new (rowAt l p) ≡ true
-      unfolding takenIn
-      free-next none p m =
-          elim (decLt p (i * 1024)) [
-            | yes low ↦ before p low
-            | no high ↦
-                let at : p ≡ i * 1024 + (p - i * 1024) = omega arith in
-                ap (λ p. isFree old new (rowAt l p)) at
-                ∙ ap (isFree old new) (row-of l i (p - i * 1024) (omega arith))
-                ∙ first-before (length (blockIn l i)) (λ k. isFree old new (getD (blockIn l i) k 0)) (p - i * 1024) (omega arith)
-          ]
-
-      -- A block in which one is: it is the lowest row of the file.
-      pub row-taken : (m : ℕ) → m ≡ takenIn old new (blockIn l i) → m < 1024 → i * 1024 + m ≡ takenAt old new l
-      unfolding takenIn takenAt
-      row-taken m found some =
-          let long = Old.block-long l done bytes i h in
-          first-only (rowCount l) (i * 1024 + m) (λ p. isFree old new (rowAt l p)) (omega arith)
-          (λ p b.
-          elim (decLt p (i * 1024)) [
-            | yes low ↦ before p low
-            | no high ↦
-                let at : p ≡ i * 1024 + (p - i * 1024) = omega arith in
-                ap (λ p. isFree old new (rowAt l p)) at
-                ∙ ap (isFree old new) (row-of l i (p - i * 1024) (omega arith))
-                ∙ first-before (length (blockIn l i)) (λ k. isFree old new (getD (blockIn l i) k 0)) (p - i * 1024) (omega arith)
-          ])
-          (λ _.
-          ap (isFree old new) (row-of l i m some)
-          ∙ ap (λ k. isFree old new (getD (blockIn l i) k 0)) found
-          ∙ first-at (length (blockIn l i)) (λ k. isFree old new (getD (blockIn l i) k 0)) (omega arith))
-
-  -- After all blocks no row is taken,
+  -- After all blocks no row is taken
   pub none-taken : (n : ℕ) → n ≡ count l → ((p : ℕ) → p < n * 1024 → isFree old new (rowAt l p) ≡ true) → n * 1024 ≡ takenAt old new l
   unfolding takenAt
   none-taken n all before =
@@ -160,3 +76,87 @@ module _ (old new l : List ℕ) (done : fileAnswer (fileTests l) ≡ Done) where
 
   pub changed-few : (n : ℕ) → length (failingFrom 0 n (λ p. isKept old new (rowAt l p))) ≤ n
   changed-few n = failing-few 0 n (λ p. isKept old new (rowAt l p))
+
+-- Of a block of a file that is right up to its run indices:
+module _ (old new l : List ℕ) (runs : fileAnswer (runsTests l) ≡ Done) (bytes : Elements 8 l) (i : ℕ) (h : i < count l) where
+  old-long : length (blockIn l i) ≡ 1024
+  old-long = Old.runs-block l runs bytes i h .0
+
+  pub block-long : length (newBlock old new (blockIn l i)) ≡ 1024
+  block-long = length-block old new (blockIn l i) ∙ old-long
+
+  -- A block of them is a block of the old file, renumbered.
+  pub block-at : blockAt (newRows old new l) i ≡ newBlock old new (blockIn l i)
+  block-at =
+      is-tab (cut 1024 (newRows old new l) i) 1024 (λ k. renumbered old new (getD (blockIn l i) k 0)) 0
+      (length-cut 1024 (newRows old new l) i (omega (arith, rows-long old new l)))
+      (λ k m.
+      getD-cut 1024 (newRows old new l) i k 0 m
+      ∙ getD-rows old new l (i * 1024 + k) (omega (arith, rows-count l))
+      ∙ ap (renumbered old new)
+      (sym (getD-cut 1024 (rowsOf l) i k 0 m) ∙ ap (λ b. getD b k 0) (rows-block l i h old-long)))
+      ∙ ap (λ n. tab n (λ k. renumbered old new (getD (blockIn l i) k 0))) (sym old-long)
+      ∙ sym (block-tab old new (blockIn l i))
+
+  -- One body more of the new file.
+  pub body-next : length (bodiesFor (newRows old new l) (i + 1))
+      ≡ length (bodiesFor (newRows old new l) i) + chosen (newBlock old new (blockIn l i)) .entry .length
+  body-next =
+      ap (λ k. length (bodiesFor (newRows old new l) k)) (add-one i)
+      ∙ bodies-longer (newRows old new l) i
+      ∙ ap (λ b. length (bodiesFor (newRows old new l) i) + chosen b .entry .length) block-at
+
+  -- The rows that change, a block more.
+  pub changed-next : length (failingFrom 0 ((i + 1) * 1024) (λ p. isKept old new (rowAt l p)))
+      ≡ length (failingFrom 0 (i * 1024) (λ p. isKept old new (rowAt l p))) + length (changedIn old new (blockIn l i))
+  unfolding changedIn
+  changed-next =
+      let test : ℕ → Bool = λ p. isKept old new (rowAt l p) in
+      let more : (i + 1) * 1024 ≡ i * 1024 + 1024 = omega arith in
+      let here : failingFrom (0 + i * 1024) 1024 test ≡ map (λ p. i * 1024 + p) (failingFrom 0 1024 (λ k. isKept old new (getD (blockIn l i) k 0))) =
+      ap (λ s. failingFrom s 1024 test) (zero-add (i * 1024) ∙ sym (add-zero (i * 1024)))
+      ∙ failing-shift (i * 1024) 0 1024 test
+      ∙ ap (map (λ p. i * 1024 + p))
+      (failing-ext 0 1024 (λ p. test (i * 1024 + p)) (λ k. isKept old new (getD (blockIn l i) k 0))
+      (λ k _ b. ap (isKept old new) (row-of l i k (omega arith)))) in
+      ap (λ n. length (failingFrom 0 n test)) more
+      ∙ ap length (failing-append 0 (i * 1024) 1024 test)
+      ∙ length-append (failingFrom 0 (i * 1024) test) (failingFrom (0 + i * 1024) 1024 test)
+      ∙ ap (λ n. length (failingFrom 0 (i * 1024) test) + n)
+      (ap length here
+      ∙ length-map (failingFrom 0 1024 (λ k. isKept old new (getD (blockIn l i) k 0))) (λ p. i * 1024 + p)
+      ∙ ap (λ n. length (failingFrom 0 n (λ k. isKept old new (getD (blockIn l i) k 0)))) (sym old-long))
+
+  module _ (before : (p : ℕ) → p < i * 1024 → isFree old new (rowAt l p) ≡ true) where
+    -- A block in which no place is taken: no row up to its end is.
+    pub free-next : 1024 ≤ takenIn old new (blockIn l i) → (p : ℕ) → p < (i + 1) * 1024 → isFree old new (rowAt l p) ≡ true
+    unfolding takenIn
+    free-next none p m =
+        elim (decLt p (i * 1024)) [
+          | yes low ↦ before p low
+          | no high ↦
+              let at : p ≡ i * 1024 + (p - i * 1024) = omega arith in
+              ap (λ p. isFree old new (rowAt l p)) at
+              ∙ ap (isFree old new) (row-of l i (p - i * 1024) (omega arith))
+              ∙ first-before (length (blockIn l i)) (λ k. isFree old new (getD (blockIn l i) k 0)) (p - i * 1024) (omega arith)
+        ]
+
+    -- A block in which one is: it is the lowest row of the file.
+    pub row-taken : (m : ℕ) → m ≡ takenIn old new (blockIn l i) → m < 1024 → i * 1024 + m ≡ takenAt old new l
+    unfolding takenIn takenAt
+    row-taken m found some =
+        let long = old-long in
+        first-only (rowCount l) (i * 1024 + m) (λ p. isFree old new (rowAt l p)) (omega arith)
+        (λ p b.
+        elim (decLt p (i * 1024)) [
+          | yes low ↦ before p low
+          | no high ↦
+              let at : p ≡ i * 1024 + (p - i * 1024) = omega arith in
+              ap (λ p. isFree old new (rowAt l p)) at
+              ∙ ap (isFree old new) (row-of l i (p - i * 1024) (omega arith))
+              ∙ first-before (length (blockIn l i)) (λ k. isFree old new (getD (blockIn l i) k 0)) (p - i * 1024) (omega arith)
+        ])
+        (λ _.
+        ap (isFree old new) (row-of l i m some)
+        ∙ ap (λ k. isFree old new (getD (blockIn l i) k 0)) found
+        ∙ first-at (length (blockIn l i)) (λ k. isFree old new (getD (blockIn l i) k 0)) (omega arith))

@@ -28,8 +28,7 @@ use Rattle.files.specs.Files.{rowAt, rowCount, rowsOf, fileTests}
 use Rattle.files.proofs.Rows.{rows-count}
 use Rattle.writer.specs.Writer.{fileOf}
 use Rattle.writer.proofs.Laying.{file-short}
-use Rattle.rewrite.specs.Rewrite as Rewrite
-use Rattle.rewrite.proofs.Rows as Old
+use Rattle.writer.proofs.FileRows as Old
 use Rattle.renumber.specs.declared.RenumberAnswer.the-variants.{File}
 use Rattle.renumber.specs.declared.Renumbered.the-variants.{Length}
 use Rattle.renumber.specs.InnerPairs.{Paired}
@@ -220,7 +219,7 @@ module _ (l old new order output : List ℕ) (bytes : Elements 8 l) (news : Elem
       ∙ sym (row-is l p b))
 
   -- so the file is the rewrite of the old one,
-  pub undone-file : newFile (along order new) (along order old) (newFile old new l) ≡ Rewrite.newFile l
+  pub undone-file : newFile (along order new) (along order old) (newFile old new l) ≡ fileOf (rowsOf l)
   undone-file = ap fileOf undone-rows
 
   -- no row is taken,
@@ -256,13 +255,13 @@ module _ (l old new order output : List ℕ) (bytes : Elements 8 l) (news : Elem
 
     -- it gives the length of the rewrite and the same count,
     pub undo-given : renumberedOf (newFile old new l) (along order new) (along order old) (turned order) back
-        ≡ Length (length (Rewrite.newFile l)) (length (changedRows old new l))
+        ≡ Length (length (fileOf (rowsOf l))) (length (changedRows old new l))
     undo-given =
         sym (written (newFile old new l) (along order new) (along order old) (turned order) back undo-answer .0)
         ∙ ap₂ (λ f c. Length (length f) (length c)) undone-file undone-changed
 
     -- and it leaves the rewrite of the old file, byte for byte.
-    pub undo-leaves : renumberLeaves (newFile old new l) (along order new) (along order old) (turned order) back ≡ over 0 (Rewrite.newFile l) back
+    pub undo-leaves : renumberLeaves (newFile old new l) (along order new) (along order old) (turned order) back ≡ over 0 (fileOf (rowsOf l)) back
     undo-leaves =
         sym (written (newFile old new l) (along order new) (along order old) (turned order) back undo-answer .1)
         ∙ ap (λ f. over 0 f back) undone-file

@@ -1,17 +1,21 @@
 // A column file is renumbered: by a list of pairs, old and new, every row whose number is listed gets its new number,
 // and every other row stays. The new file is what the writer gives for these rows. Beside the file, the lists and the
-// output there is room for one block of numbers, and for the candidates of one block.
+// output there is room for one block of numbers, for the candidates of one block, and for four numbers of each block.
 //
-// The file is gone through twice behind its check: once for the lowest row that would become one with another number,
-// for the new file's length and for how many rows change, and once to write. So a refused call writes nothing. A number
-// is looked up by halving. In a block whose smallest and largest number have no old number between them none is
+// The blocks are gone through twice behind the check of contents and run indices. First each is laid down, held to the
+// range that its entry says, which is the last of the reader's tests, searched for a number that would become one with
+// another, renumbered and measured; and of it is kept what it is laid down by, and how many of its numbers change. Then,
+// where there is room, each is laid down again, renumbered where something changes, and written by what was kept. So the
+// new file's length is known before the first byte is written, and a refused call writes nothing.
+//
+// A number is looked up by halving. In a block whose smallest and largest number have no old number between them none is
 // replaced, and in one that has no new number between them none is taken; so where neither is the case nothing is
-// looked up.
+// looked up, and the block is measured once.
 mod pairs;
 
-use bodies::range_of;
-use candidates::entry_for;
-use candidates::lay_block;
+use candidates::entry_with;
+use candidates::lay_by;
+use candidates::measure;
 use contents::FileAnswer;
 use contents::Range;
 use contents::count;
@@ -20,19 +24,27 @@ use contents::put_entry;
 use contents::put_head;
 use contents::range_or;
 use files::block_from;
+use files::check_runs;
 ghost use mathlib.Core.Path.{_≡_};
 ghost use mathlib.Core.List.{_++_};
-ghost use Prim.Native.Nat.{_+_, _≤_, _<_};
-ghost use lib.ListN.{length};
+ghost use Prim.Native.Nat.{_+_, _*_, _≤_, _<_};
+ghost use lib.ListN.{length, getD, set};
 ghost use Rattle.lists.specs.Members.{Rising};
+ghost use Rattle.lists.specs.Pick.{pick};
 ghost use Rattle.lists.specs.Tab.{over};
+ghost use Rattle.contents.specs.declared.FileAnswer.the-variants.{Done};
+ghost use Rattle.contents.specs.Answers.{fileAnswer, isDone};
 ghost use Rattle.contents.specs.Bytes.{entryBytes};
 ghost use Rattle.contents.specs.Contents.{count as countIn, contentsSize, bodyStart};
 ghost use Rattle.bodies.specs.Ranges.{trueRange};
+ghost use Rattle.candidates.specs.Calls.{measuredOf};
 ghost use Rattle.candidates.specs.Candidates.{chosen, bodyFor};
-ghost use Rattle.files.specs.Files.{blockIn, FileTaken};
+ghost use Rattle.files.specs.Files.{blockIn, hasTrueRange, fileTests, runsTests, FileTaken};
+ghost use Rattle.writer.specs.InnerKept.{KeptAt, Rooms};
 ghost use Rattle.writer.specs.Writer.{entriesFor, bodiesFor};
-ghost use Rattle.renumber.specs.InnerBlocks.{newBlock, takenIn, changedIn, BlockMeasured, FileMeasured};
+ghost use Rattle.renumber.specs.declared.RenumberAnswer.the-variants.{File};
+ghost use Rattle.renumber.specs.declared.Renumbered.the-variants.{Refused};
+ghost use Rattle.renumber.specs.InnerBlocks.{newBlock, takenIn, changedIn, keptWith, Ready, BlockFound, FileFound};
 ghost use Rattle.renumber.specs.InnerPairs.{Paired};
 ghost use Rattle.renumber.specs.Renumber.{numberOf, placeOf, newRows, newFile, listAnswer, renumberedOf, renumberLeaves, answerOf, lengthOf, changedOf};
 
@@ -120,9 +132,10 @@ impl Renumbered {
     }
 }
 
-// What is known before anything is written: the lowest row or place that is taken, the bytes of what is to be written,
-// and how many numbers change.
-struct Measured {
+// What is found of a block, or of the blocks of a file: whether it passes, which is that no range is false and no number
+// taken; the lowest place or row that is taken; the bytes of what is to be written; and how many numbers change.
+struct Found {
+    passes: bool,
     taken: usize,
     size: usize,
     changed: usize,
@@ -148,23 +161,40 @@ pub fn renumber(
         (output .entry))
         ⌝ }
 {
-    let answer = files::check(file);
+    let answer = check_runs(file);
     if answer.number() != 0 {
         return Renumbered::Refused(RenumberAnswer::File(answer));
     }
     let lists = check_lists(old, new, order);
     if lists.number() != 0 {
-        return Renumbered::Refused(lists);
+        return refuse(file, lists);
     }
-    let m = measure(file, old, new, order);
-    if m.taken < count(file) * 1024 {
-        return Renumbered::Refused(RenumberAnswer::Taken(m.taken));
+    let mut kept = [0u64; 768];
+    let mut counts = [0u64; 256];
+    let found = measure_blocks(file, old, new, order, &mut kept, &mut counts);
+    if !found.passes {
+        return refuse(file, RenumberAnswer::Taken(found.taken));
     }
-    if output.len() < m.size {
+    if output.len() < found.size {
         return Renumbered::Refused(RenumberAnswer::File(FileAnswer::Room));
     }
-    lay_file(file, old, new, output);
-    Renumbered::Length(m.size, m.changed)
+    lay_file(file, old, new, &kept, &counts, output);
+    Renumbered::Length(found.size, found.changed)
+}
+
+// Refuses a file that is right up to its run indices: a false range stands before anything else that is wrong.
+fn refuse(file: &[u8], otherwise: RenumberAnswer) -> Renumbered
+    ensures { λ r. ⌜
+        r
+        ≡ Refused
+        (pick (isDone (fileAnswer (fileTests (now (file .entry))))) otherwise (File (fileAnswer (fileTests (now (file .entry))))))
+        ⌝ }
+{
+    let answer = files::check(file);
+    if answer.number() != 0 {
+        return Renumbered::Refused(RenumberAnswer::File(answer));
+    }
+    Renumbered::Refused(otherwise)
 }
 
 // The answer to the lists alone.
@@ -192,32 +222,47 @@ fn check_lists(old: &[u64], new: &[u64], order: &[u64]) -> RenumberAnswer
     RenumberAnswer::File(FileAnswer::Done)
 }
 
-// Goes through the file for the lowest row that is taken, the new file's length and how many rows change. It ends at
-// the first block that has a taken row.
-fn measure(file: &[u8], old: &[u64], new: &[u64], order: &[u64]) -> Measured
-    requires { ⌜ FileTaken (now file) ⌝ }
+// Goes through the file, which is right up to its run indices, for a false range, the lowest row that is taken, the new
+// file's length and how many rows change, and keeps of each block what it is laid down by and how many of its numbers
+// change. It ends at the first block that does not pass.
+fn measure_blocks(
+    file: &[u8],
+    old: &[u64],
+    new: &[u64],
+    order: &[u64],
+    kept: &mut [u64],
+    counts: &mut [u64],
+) -> Found
+    requires { ⌜ fileAnswer (runsTests (now file)) ≡ Done ⌝ }
     requires { ⌜ Paired (now old) (now new) (now order) ⌝ }
-    ensures { λ r. ⌜ FileMeasured (now (old .entry)) (now (new .entry)) (now (file .entry)) r ⌝ }
+    requires { ⌜ (length (now kept) ≡ 768) × (length (now counts) ≡ 256) ⌝ }
+    ensures { λ r. ⌜
+        FileFound (now (old .entry)) (now (new .entry)) (now (file .entry)) (now (kept .exit)) (now (counts .exit)) r
+        ⌝ }
 {
     let n = count(file);
+    let mut block = [0u64; 1024];
     let mut size = 4 + n * 32;
     let mut changed = 0;
     let mut body = bodywise::first(file);
     while body.number < n {
-        let m = measure_one(file, body.number, body.at, old, new, order);
-        if m.taken < 1024 {
-            return Measured {
-                taken: body.number * 1024 + m.taken,
+        let i = body.number;
+        let one = measure_one(file, i, body.at, old, new, order, &mut block, kept, counts);
+        if !one.passes {
+            return Found {
+                passes: false,
+                taken: i * 1024 + one.taken,
                 size: 0,
                 changed: 0,
             };
         }
-        size += m.size;
-        changed += m.changed;
+        size += one.size;
+        changed += one.changed;
         let next = bodywise::next(file, body);
         body = next;
     }
-    Measured {
+    Found {
+        passes: true,
         taken: n * 1024,
         size,
         changed,
@@ -232,38 +277,83 @@ fn measure_one(
     old: &[u64],
     new: &[u64],
     order: &[u64],
-) -> Measured
-    requires { ⌜ FileTaken (now file) ⌝ }
+    block: &mut [u64],
+    kept: &mut [u64],
+    counts: &mut [u64],
+) -> Found
+    requires { ⌜ fileAnswer (runsTests (now file)) ≡ Done ⌝ }
     requires { ⌜ i < countIn (now file) ⌝ }
     requires { ⌜ from ≡ bodyStart (now file) i ⌝ }
     requires { ⌜ Paired (now old) (now new) (now order) ⌝ }
-    ensures { λ r. ⌜ BlockMeasured (now (old .entry)) (now (new .entry)) (blockIn (now (file .entry)) i) r ⌝ }
+    requires { ⌜ length (now block) ≡ 1024 ⌝ }
+    requires { ⌜ (length (now kept) ≡ 768) × (length (now counts) ≡ 256) ⌝ }
+    ensures { λ r. ⌜ BlockFound (now (old .entry)) (now (new .entry)) (now (file .entry)) i r ⌝ }
+    ensures { λ _. ⌜
+        now (kept .exit)
+        ≡ keptWith (newBlock (now (old .entry)) (now (new .entry)) (blockIn (now (file .entry)) i)) (now (kept .entry)) i
+        ⌝ }
+    ensures { λ _. ⌜
+        now (counts .exit)
+        ≡ set (now (counts .entry)) i
+        (length (changedIn (now (old .entry)) (now (new .entry)) (blockIn (now (file .entry)) i)))
+        ⌝ }
 {
-    let mut block = [0u64; 1024];
-    block_from(file, i, from, &mut block);
-    let range = range_in(file, i, &block);
-    let taken = first_taken(&block, range, old, new, order);
-    let changed = replace(&mut block, range, old, new);
-    let e = entry_for(&block);
-    Measured {
+    block_from(file, i, from, block);
+    let m = measure(block);
+    let range = m.range;
+    let ranged = is_told(file, i, range);
+    let taken = first_taken(block, range, old, new, order);
+    let changed = replace(block, range, old, new);
+    let after = measure_again(m, changed, block);
+    keep(after.range, after.steps, i, kept);
+    counts[i] = changed as u64;
+    let e = after.entry;
+    Found {
+        passes: ranged & (taken == 1024),
         taken,
         size: e.length as usize,
         changed,
     }
 }
 
-// The range of block i, which was laid down: in edition 2 its entry says it, and the check has looked whether that is
-// true.
-fn range_in(file: &[u8], i: usize, block: &[u64]) -> Range
-    requires { ⌜ FileTaken (now file) ⌝ }
+// Whether entry i says this range; in edition 1 it says none.
+fn is_told(file: &[u8], i: usize, range: Range) -> bool
+    requires { ⌜ fileAnswer (runsTests (now file)) ≡ Done ⌝ }
     requires { ⌜ i < countIn (now file) ⌝ }
-    requires { ⌜ now block ≡ blockIn (now file) i ⌝ }
-    ensures { λ r. ⌜ r ≡ trueRange (blockIn (now (file .entry)) i) ⌝ }
+    requires { ⌜ range ≡ trueRange (blockIn (now file) i) ⌝ }
+    ensures { λ r. ⌜ r ≡ hasTrueRange (now (file .entry)) i ⌝ }
 {
-    if edition(file) == 2 {
-        return range_or(file, i);
+    if edition(file) != 2 {
+        return true;
     }
-    range_of(block)
+    let said = range_or(file, i);
+    (said.smallest == range.smallest) & (said.largest == range.largest)
+}
+
+// What is measured of a block that was measured before so many of its numbers changed: where none did it stays.
+fn measure_again(m: candidates::Measured, changed: usize, block: &[u64]) -> candidates::Measured
+    requires { ⌜ (changed ≡ 0 → m ≡ measuredOf (now block)) ⌝ }
+    ensures { λ r. ⌜ r ≡ measuredOf (now (block .entry)) ⌝ }
+{
+    if changed == 0 {
+        return m;
+    }
+    measure(block)
+}
+
+// Keeps what block i is laid down by.
+fn keep(range: Range, steps: usize, i: usize, kept: &mut [u64])
+    requires { ⌜ i < 256 ⌝ }
+    requires { ⌜ length (now kept) ≡ 768 ⌝ }
+    ensures { λ _. ⌜
+        now (kept .exit)
+        ≡ set (set (set (now (kept .entry)) (i * 3) (range .smallest)) (i * 3 + 1) (range .largest)) (i * 3 + 2) steps
+        ⌝ }
+{
+    let at = i * 3;
+    kept[at] = range.smallest;
+    kept[at + 1] = range.largest;
+    kept[at + 2] = steps as u64;
 }
 
 // The lowest place of a block that is taken, and the block's length where there is none. A block that has no new number
@@ -323,10 +413,8 @@ fn replace_all(block: &mut [u64], old: &[u64], new: &[u64]) -> usize
 }
 
 // Writes the new file to an output that has room for it.
-fn lay_file(file: &[u8], old: &[u64], new: &[u64], output: &mut [u8])
-    requires { ⌜ FileTaken (now file) ⌝ }
-    requires { ⌜ Rising (now old) ⌝ }
-    requires { ⌜ length (now new) ≡ length (now old) ⌝ }
+fn lay_file(file: &[u8], old: &[u64], new: &[u64], kept: &[u64], counts: &[u64], output: &mut [u8])
+    requires { ⌜ Ready (now old) (now new) (now file) (now kept) (now counts) ⌝ }
     requires { ⌜ length (newFile (now old) (now new) (now file)) ≤ length (now output) ⌝ }
     ensures { λ _. ⌜
         now (output .exit)
@@ -335,14 +423,19 @@ fn lay_file(file: &[u8], old: &[u64], new: &[u64], output: &mut [u8])
 {
     let n = count(file);
     put_head(n as u16, output);
-    lay_blocks(file, old, new, output);
+    lay_blocks(file, old, new, kept, counts, output);
 }
 
 // Writes the entries and the bodies of all blocks, behind the first four bytes.
-fn lay_blocks(file: &[u8], old: &[u64], new: &[u64], output: &mut [u8])
-    requires { ⌜ FileTaken (now file) ⌝ }
-    requires { ⌜ Rising (now old) ⌝ }
-    requires { ⌜ length (now new) ≡ length (now old) ⌝ }
+fn lay_blocks(
+    file: &[u8],
+    old: &[u64],
+    new: &[u64],
+    kept: &[u64],
+    counts: &[u64],
+    output: &mut [u8],
+)
+    requires { ⌜ Ready (now old) (now new) (now file) (now kept) (now counts) ⌝ }
     requires { ⌜ length (newFile (now old) (now new) (now file)) ≤ length (now output) ⌝ }
     ensures { λ _. ⌜
         now (output .exit)
@@ -353,56 +446,92 @@ fn lay_blocks(file: &[u8], old: &[u64], new: &[u64], output: &mut [u8])
         ⌝ }
 {
     let n = count(file);
+    let mut block = [0u64; 1024];
+    let mut plain = [0u64; 1024];
+    let mut frame = [0u64; 1024];
+    let mut rest = [0u64; 1040];
     let mut at = 4 + n * 32;
     let mut body = bodywise::first(file);
     while body.number < n {
-        at += lay_one(file, body.number, body.at, old, new, at, output);
+        new_block(file, body.number, body.at, old, new, counts, &mut block);
+        at += lay_one(
+            &block,
+            kept,
+            body.number,
+            at,
+            &mut plain,
+            &mut frame,
+            &mut rest,
+            output,
+        );
         let next = bodywise::next(file, body);
         body = next;
     }
 }
 
-// Writes the new body of block i, whose old one begins at `from`, from place `at` on, and its entry with its range, and
-// gives the length of the new body. There is room, so the body is not refused.
-fn lay_one(
+// Lays block i down, whose body begins at `from`, and renumbers it where the count says that something changes.
+fn new_block(
     file: &[u8],
     i: usize,
     from: usize,
     old: &[u64],
     new: &[u64],
-    at: usize,
-    output: &mut [u8],
-) -> usize
+    counts: &[u64],
+    block: &mut [u64],
+)
     requires { ⌜ FileTaken (now file) ⌝ }
     requires { ⌜ i < countIn (now file) ⌝ }
     requires { ⌜ from ≡ bodyStart (now file) i ⌝ }
     requires { ⌜ Rising (now old) ⌝ }
     requires { ⌜ length (now new) ≡ length (now old) ⌝ }
+    requires { ⌜ (length (now counts) ≡ 256) × (length (now block) ≡ 1024) ⌝ }
+    requires { ⌜ getD (now counts) i 0 ≡ length (changedIn (now old) (now new) (blockIn (now file) i)) ⌝ }
+    ensures { λ _. ⌜
+        now (block .exit) ≡ newBlock (now (old .entry)) (now (new .entry)) (blockIn (now (file .entry)) i)
+        ⌝ }
+{
+    block_from(file, i, from, block);
+    if counts[i] == 0 {
+        return;
+    }
+    replace_all(block, old, new);
+}
+
+// Writes the body of block i from place `at` on, and its entry with its range, and gives the length of the body. There
+// is room, so the body is not refused.
+fn lay_one(
+    block: &[u64],
+    kept: &[u64],
+    i: usize,
+    at: usize,
+    plain: &mut [u64],
+    frame: &mut [u64],
+    rest: &mut [u64],
+    output: &mut [u8],
+) -> usize
+    requires { ⌜ length (now block) ≡ 1024 ⌝ }
+    requires { ⌜ (i < 256) × (length (now kept) ≡ 768) ⌝ }
+    requires { ⌜ KeptAt (now block) (now kept) i ⌝ }
+    requires { ⌜ Rooms (now plain) (now frame) (now rest) ⌝ }
     requires { ⌜
-        (contentsSize 2 (i + 1) ≤ at) × (at
-        + chosen (newBlock (now old) (now new) (blockIn (now file) i)) .entry .length
-        ≤ length (now output))
+        (contentsSize 2 (i + 1) ≤ at) × (at + chosen (now block) .entry .length ≤ length (now output))
         ⌝ }
-    ensures { λ r. ⌜
-        r
-        ≡ chosen (newBlock (now (old .entry)) (now (new .entry)) (blockIn (now (file .entry)) i)) .entry .length
-        ⌝ }
+    ensures { λ r. ⌜ r ≡ chosen (now (block .entry)) .entry .length ⌝ }
     ensures { λ _. ⌜
         now (output .exit)
         ≡ over (contentsSize 2 i)
-        (entryBytes
-        (chosen (newBlock (now (old .entry)) (now (new .entry)) (blockIn (now (file .entry)) i)) .entry)
-        (trueRange (newBlock (now (old .entry)) (now (new .entry)) (blockIn (now (file .entry)) i))))
-        (over at (bodyFor (newBlock (now (old .entry)) (now (new .entry)) (blockIn (now (file .entry)) i))) (now
-        (output .entry)))
+        (entryBytes (chosen (now (block .entry)) .entry) (trueRange (now (block .entry))))
+        (over at (bodyFor (now (block .entry))) (now (output .entry)))
         ⌝ }
 {
-    let mut block = [0u64; 1024];
-    block_from(file, i, from, &mut block);
-    let range = range_in(file, i, &block);
-    replace(&mut block, range, old, new);
-    let laid = lay_block(&block, &mut output[at..]);
-    let e = laid.entry();
-    put_entry(e, laid.range(), 4 + i * 32, output);
+    let k = i * 3;
+    let range = Range {
+        smallest: kept[k],
+        largest: kept[k + 1],
+    };
+    let steps = kept[k + 2] as usize;
+    lay_by(range, steps, block, plain, frame, rest, &mut output[at..]);
+    let e = entry_with(range, steps);
+    put_entry(e, range, 4 + i * 32, output);
     e.length as usize
 }

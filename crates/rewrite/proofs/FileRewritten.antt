@@ -33,7 +33,7 @@ use Rattle.writer.proofs.ReadBack.{edition-is, count-is, entry-read, file-accep
 use Rattle.rewrite.specs.Reasons.{RewriteReason, of-file, short-output, room-there}
 use Rattle.rewrite.specs.Rewrite.{newFile, rewriteTests, rewrittenOf, rewriteLeaves}
 use Rattle.rewrite.proofs.Calls.{bad-file, new-short, new-room}
-use Rattle.rewrite.proofs.Rows.{few, rows-long, rows-whole, block-at}
+use Rattle.writer.proofs.FileRows.{few, rows-long, rows-whole, block-at}
 
 module _ (l output : List ℕ) where
   -- The reason gives the answer,

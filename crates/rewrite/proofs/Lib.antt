@@ -1,3 +1,3 @@
 pub mod Calls
 pub mod FileRewritten
-pub mod Rows
+pub mod Pairless

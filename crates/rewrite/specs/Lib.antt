@@ -1,2 +1,3 @@
+pub mod InnerPairless
 pub mod Reasons
 pub mod Rewrite

@@ -1,4 +1,5 @@
 pub mod Calls
+pub mod FileRows
 pub mod FileWritten
 pub mod Keeping
 pub mod Laying

@@ -19,7 +19,7 @@ use Rattle.bodywise.proofs.Told.{entry-read, body-laid}
 use Rattle.files.proofs.Files.{body-long}
 use Rattle.files.proofs.Froms.{body-from-is}
 use Rattle.files.proofs.Ranges.{contents-right}
-use Rattle.rewrite.proofs.Rows.{runs-block}
+use Rattle.writer.proofs.FileRows.{runs-block}
 use Rattle.canonical.specs.Canonical.{isSameEntry, isSameList, isOurs}
 use Rattle.canonical.proofs.Back.{body-same, base-same}
 use Rattle.canonical.proofs.Same.{entry-same, list-same, same-test}

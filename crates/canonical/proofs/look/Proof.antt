@@ -19,7 +19,7 @@ use Rattle.candidates.proofs.Calls.{measured-there}
 use Rattle.bodywise.proofs.Told.{range-read}
 use Rattle.files.specs.Files.{blockIn, hasTrueRange}
 use Rattle.files.proofs.Ranges.{contents-right}
-use Rattle.rewrite.proofs.Rows.{runs-block, runs-laid}
+use Rattle.writer.proofs.FileRows.{runs-block, runs-laid}
 use Rattle.canonical.proofs.look.Statement.{statement}
 use Rattle.canonical.proofs.look.Tie as tie
 

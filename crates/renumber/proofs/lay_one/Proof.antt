@@ -1,80 +1,68 @@
--- `renumber::lay_one` meets its contract: the block is laid down over zeros and replaced, its new body from its place
--- on, and its entry and range in theirs.
+-- `renumber::lay_one` meets its contract: by what was kept, the body is laid down from its place on, and then the entry and
+-- its range in its own.
 -- Assumes nothing.
-use mathlib.Core.Path.{_≡_, sym, ap, _∙_}
-use Rattle.writer.proofs.Laying.{one-written}
-use Rattle.rewrite.proofs.Rows.{few, block-laid}
-use Prim.Native.Nat.{_-_}
-use borrow.Rule.Slice.PartMut.{midOf}
-use denote.Ref.{now}
-use Rattle.candidates.specs.Calls.{laidOf, layLeaves}
-use Rattle.files.specs.Files.{blockIn}
-use Rattle.contents.specs.Contents.{entrySize, contentsSize}
-use Rattle.lists.specs.Numbers.{Elements}
-use Rattle.renumber.proofs.Rows.{block-long}
-use Rattle.bodies.specs.Ranges.{trueRange}
-use Rattle.renumber.specs.InnerBlocks.{newBlock}
-use lib.ListN.{length}
-use borrow.Author.Needs.{needs}
+use mathlib.Core.Path.{_≡_, _∙_}
+use Prim.Native.Nat.{_+_, _*_}
 use native.Mathlib.Omega.{arith}
+use denote.Ref.{now}
+use lib.ListN.{getD}
+use borrow.Author.Needs.{needs}
+use Rattle.lists.specs.Numbers.{Elements}
+use Rattle.places.specs.Sizes.{t64}
+use Rattle.contents.specs.declared.Range.{Range}
+use Rattle.contents.specs.Contents.{entrySize, contentsSize}
+use Rattle.bodies.specs.Ranges.{trueRange}
+use Rattle.writer.proofs.Keeping.{kept-written}
 use Rattle.renumber.proofs.lay_one.Statement.{statement}
 use Rattle.renumber.proofs.lay_one.Tie as tie
 
--- the block that was laid down, and its range
-laid : (c : tie.After-block-from) → c .block-from .last .1 .1 .1 .0 ≡ blockIn (now (c .before .before .before .before .before .before .args .file)) (c .before .before .before .before .before .before .args .i)
-laid c =
-    let start = c .before .before .before .before .before .before in
-    let l = now (start .args .file) in
-    let bytes : Elements 8 l = λ k. omega (arith, c .before .before .before .before .before .shared-slice-known .given k) in
-    block-laid l (start .pre .0) bytes (start .args .i) (start .pre .1 .0) (start .pre .1 .1 .0) (c .block-from .ensures .1)
+mul-k : tie.Need-mul-k
+mul-k c = search needs
 
-range-is : (c : tie.After-range-in) → c .range-in .result ≡ trueRange (c .before .before .before .block-from .last .1 .1 .1 .0)
-range-is c = c .range-in .ensures ∙ ap trueRange (sym (laid (c .before .before .before)))
+mul-t13 : tie.Need-mul-t13
+mul-t13 c = search needs
 
-slice-aggregate-block-from : tie.Need-slice-aggregate-block-from
-slice-aggregate-block-from c = search needs
+shared-slice-read-t15 : tie.Need-shared-slice-read-t15
+shared-slice-read-t15 c = search needs
 
-block-from-requires : tie.Need-block-from-requires
-block-from-requires c κs = search needs
+add-steps : tie.Need-add-steps
+add-steps c = search needs
 
-slice-aggregate-range-in : tie.Need-slice-aggregate-range-in
-slice-aggregate-range-in c = search needs
+mul-steps : tie.Need-mul-steps
+mul-steps c = search needs
 
-range-in-requires : tie.Need-range-in-requires
-range-in-requires c κs = (c .before .before .before .before .before .before .before .before .pre .0, (c .before .before .before .before .before .before .before .before .pre .1 .0, laid (c .before .before)))
+shared-slice-read-steps : tie.Need-shared-slice-read-steps
+shared-slice-read-steps c = search needs
 
-slice-aggregate-replace : tie.Need-slice-aggregate-replace
-slice-aggregate-replace c = search needs
+add-steps-2 : tie.Need-add-steps-2
+add-steps-2 c = search needs
 
-replace-requires : tie.Need-replace-requires
-replace-requires c κs = (range-is (c .before), (c .before .before .before .before .before .before .before .before .before .before .pre .1 .1 .1 .0, c .before .before .before .before .before .before .before .before .before .before .pre .1 .1 .1 .1 .0))
+mul-steps-2 : tie.Need-mul-steps-2
+mul-steps-2 c = search needs
 
-slice-aggregate-lay-block : tie.Need-slice-aggregate-lay-block
-slice-aggregate-lay-block c = search needs
+shared-slice-read-steps-2 : tie.Need-shared-slice-read-steps-2
+shared-slice-read-steps-2 c = search needs
 
-sub-lay-block : tie.Need-sub-lay-block
-sub-lay-block c = search needs
+sub-lay-by : tie.Need-sub-lay-by
+sub-lay-by c = search needs
 
-part-lay-block-start : tie.Need-part-lay-block-start
-part-lay-block-start c = search needs
+part-lay-by-start : tie.Need-part-lay-by-start
+part-lay-by-start c = search needs
 
-part-lay-block-end : tie.Need-part-lay-block-end
-part-lay-block-end c = search needs
+part-lay-by-end : tie.Need-part-lay-by-end
+part-lay-by-end c = search needs
 
-lay-block-requires : tie.Need-lay-block-requires
-lay-block-requires c κs = search needs
+lay-by-requires : tie.Need-lay-by-requires
+lay-by-requires c κs = search needs
 
-entry-requires : tie.Need-entry-requires
-entry-requires c κs = search needs
-
-range-requires : tie.Need-range-requires
-range-requires c κs = search needs
+entry-with-requires : tie.Need-entry-with-requires
+entry-with-requires c κs = search needs
 
 mul-put-entry : tie.Need-mul-put-entry
-mul-put-entry c = let start = c .before .before .before .before .before .before .before .before .before .before .before .before .before .before .before .before .before .before .before in omega (arith, few (now (start .args .file)) (start .pre .0), start .pre .1 .0)
+mul-put-entry c = search needs
 
 add-put-entry : tie.Need-add-put-entry
-add-put-entry c = let start = c .before .before .before .before .before .before .before .before .before .before .before .before .before .before .before .before .before .before .before in omega (arith, few (now (start .args .file)) (start .pre .0), start .pre .1 .0)
+add-put-entry c = search needs
 
 put-entry-requires : tie.Need-put-entry-requires
 put-entry-requires c κs = search needs
@@ -85,52 +73,59 @@ cast-result c = search needs
 same-length : tie.Need-same-length
 same-length c = search needs
 
+same-length-2 : tie.Need-same-length-2
+same-length-2 c = search needs
+
+same-length-3 : tie.Need-same-length-3
+same-length-3 c = search needs
+
+same-length-4 : tie.Need-same-length-4
+same-length-4 c = search needs
+
 returns : tie.Need-returns
 unfolding contentsSize entrySize
 returns c =
-    let out = c .before .before .before in
-    let range = c .before .before .before .before .before in
-    let entry = c .before .before .before .before .before .before in
-    let body = c .before .before .before .before .before .before .before .before .before in
-    let replaced = c .before .before .before .before .before .before .before .before .before .before .before .before .before in
-    let first = c .before .before .before .before .before .before .before .before .before .before .before .before .before .before .before .before .before .before in
-    let start = c .before .before .before .before .before .before .before .before .before .before .before .before .before .before .before .before .before .before .before .before .before .before .before .before in
+    let put = c .before .before .before in
+    let entry = put .before .before in
+    let by = entry .before .before .before .before .before .before .before .before .before in
+    let known = by .before .before .before .before .before .before .before .before .before .before .before .before .before in
+    let start = known .before in
     let pre = start .pre in
-    let l = now (start .args .file) in
+    let block = now (start .args .block) in
+    let kept = now (start .args .kept) in
     let i = start .args .i in
-    let at = start .args .at in
-    let old = now (start .args .output) in
-    let new = newBlock (now (start .args .old)) (now (start .args .new)) in
-    let bytes : Elements 8 l = λ k. omega (arith, first .before .before .before .before .before .shared-slice-known .given k) in
-    let block = replaced .replace .ensures .1 ∙ ap new (laid first) in
-    let room = pre .1 .1 .1 .1 .1 in
-    let one = one-written (new (blockIn l i)) (block-long (now (start .args .old)) (now (start .args .new)) l (pre .0) bytes i (pre .1 .0)) at old (room .1) i (room .0)
-    (body .lay-block .ensures .0 ∙ ap (λ b. laidOf b (midOf at (length old - at) old)) block)
-    (body .lay-block .ensures .1 ∙ ap (λ b. layLeaves b (midOf at (length old - at) old)) block)
-    (entry .entry .ensures)
-    (range .range .ensures) in
-    (one .0, out .put-entry .ensures ∙ one .1)
+    let fits : Elements t64 block = λ k. omega (arith, known .shared-slice-known .given k) in
+    let range : Range = record { smallest = getD kept (i * 3) 0; largest = getD kept (i * 3 + 1) 0 } in
+    let range-is : range ≡ trueRange block = λ j. record { smallest = pre .1 .1 .0 .low j; largest = pre .1 .1 .0 .high j } in
+    let one = kept-written block (pre .0) fits (start .args .at) (now (start .args .output)) (pre .1 .1 .1 .1 .1) i range (getD kept (i * 3 + 2) 0)
+    (now (start .args .plain)) (now (start .args .frame)) (now (start .args .rest)) _ (by .lay-by .result) (entry .entry-with .result)
+    (pre .1 .1 .1 .1 .0) range-is (pre .1 .1 .0 .steps) (pre .1 .1 .1 .0) (by .lay-by .ensures .0) (by .lay-by .ensures .1 .1 .1 .1) (entry .entry-with .ensures) in
+    (one .0, put .put-entry .ensures ∙ one .1)
 
 pub lay-one-spec : {M : Type 1} → statement M
 lay-one-spec =
     tie.close
     (tie.spec
-    slice-aggregate-block-from
-    block-from-requires
-    slice-aggregate-range-in
-    range-in-requires
-    slice-aggregate-replace
-    replace-requires
-    slice-aggregate-lay-block
-    sub-lay-block
-    part-lay-block-start
-    part-lay-block-end
-    lay-block-requires
-    entry-requires
-    range-requires
+    mul-k
+    mul-t13
+    shared-slice-read-t15
+    add-steps
+    mul-steps
+    shared-slice-read-steps
+    add-steps-2
+    mul-steps-2
+    shared-slice-read-steps-2
+    sub-lay-by
+    part-lay-by-start
+    part-lay-by-end
+    lay-by-requires
+    entry-with-requires
     mul-put-entry
     add-put-entry
     put-entry-requires
     cast-result
     same-length
+    same-length-2
+    same-length-3
+    same-length-4
     returns)

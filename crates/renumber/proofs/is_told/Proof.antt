@@ -1,4 +1,4 @@
--- `rewrite::is_told` meets its contract: in edition 1 there is no range, and in edition 2 the two are held to each other.
+-- `renumber::is_told` meets its contract: in edition 1 there is no range, and in edition 2 the two are held to each other.
 -- Assumes nothing.
 use mathlib.Core.Bool.{true}
 use mathlib.Core.Path.{_≡_, sym, ap, ap₂, _∙_}
@@ -13,9 +13,8 @@ use Rattle.bodies.specs.Ranges.{isRange}
 use Rattle.bodywise.proofs.Told.{edition-read, range-read}
 use Rattle.files.specs.Files.{blockIn, hasTrueRange}
 use Rattle.files.proofs.Ranges.{contents-right}
-use borrow.Author.Needs.{needs}
-use Rattle.rewrite.proofs.is_told.Statement.{statement}
-use Rattle.rewrite.proofs.is_told.Tie as tie
+use Rattle.renumber.proofs.is_told.Statement.{statement}
+use Rattle.renumber.proofs.is_told.Tie as tie
 
 edition-requires : tie.Need-edition-requires
 edition-requires c κs = search needs

@@ -1,13 +1,12 @@
--- `rewrite::keep` meets its contract: three stores.
+-- `renumber::keep` meets its contract: three stores.
 -- Assumes nothing.
 use Prim.Native.Nat.{_+_, _*_}
 use native.Mathlib.Omega.{arith}
 use denote.Ref.{now}
 use lib.ListN.{set, length-set}
 use borrow.Author.Needs.{needs}
-use borrow.Author.Needs.{needs}
-use Rattle.rewrite.proofs.keep.Statement.{statement}
-use Rattle.rewrite.proofs.keep.Tie as tie
+use Rattle.renumber.proofs.keep.Statement.{statement}
+use Rattle.renumber.proofs.keep.Tie as tie
 
 mul-at : tie.Need-mul-at
 mul-at c = search needs

@@ -1,6 +1,5 @@
--- The new file is the writer's for the rows of the old one. The rows of an accepted file of bytes, as the writer takes
--- them: whole blocks, at most 256, each of which is laid down from its body. And where the next body of the new file
--- begins.
+-- The rows of an accepted file of bytes, as the writer takes them: whole blocks, at most 256, each of which is laid down
+-- from its body. The new file is the writer's for these rows; and where its next body begins.
 -- Assumes nothing.
 use mathlib.Core.List.{List}
 use mathlib.Core.Path.{_≡_, refl, ap, _∙_}
@@ -20,14 +19,9 @@ use Rattle.bodywise.proofs.Told.{whole, body-laid}
 use Rattle.files.proofs.Froms.{from-block}
 use Rattle.files.proofs.Ranges.{contents-right, runs-good, file-runs}
 use Rattle.files.proofs.Rows.{rows-count, rows-block}
 use Rattle.writer.specs.Reasons.{Blocks}
 use Rattle.writer.specs.Writer.{blockCount, blockAt, bodiesFor, fileOf}
 use Rattle.writer.proofs.Laying.{bodies-longer, length-file}
-use Rattle.rewrite.specs.Rewrite.{newFile}
-
--- The new file is what the writer gives for the rows of the old one, so all that is proved of the writer holds of it.
-pub new-is-written : (l : List ℕ) → newFile l ≡ fileOf (rowsOf l)
-new-is-written l = refl
 
 -- What holds already of a file that is right up to its run indices,
 module _ (l : List ℕ) (runs : fileAnswer (runsTests l) ≡ Done) where
@@ -38,7 +32,7 @@ module _ (l : List ℕ) (runs : fileAnswer (runsTests l) ≡ Done) where
   runs-few = whole l runs-right .few
 
   -- The new file has this length.
-  pub runs-length : length (newFile l) ≡ contentsSize 2 (count l) + length (bodiesFor (rowsOf l) (count l))
+  pub runs-length : length (fileOf (rowsOf l)) ≡ contentsSize 2 (count l) + length (bodiesFor (rowsOf l) (count l))
   runs-length =
       let blocks : blockCount (rowsOf l) ≡ count l = omega (arith, rows-count l) in
       length-file (rowsOf l) ∙ ap (λ n. contentsSize 2 n + length (bodiesFor (rowsOf l) n)) blocks
@@ -83,7 +77,7 @@ module _ (l : List ℕ) (done : fileAnswer (fileTests l) ≡ Done) where
   rows-whole = record { n = count l; whole = rows-long; few = few }
 
   -- The new file has this length.
-  pub length-new : length (newFile l) ≡ contentsSize 2 (count l) + length (bodiesFor (rowsOf l) (count l))
+  pub length-new : length (fileOf (rowsOf l)) ≡ contentsSize 2 (count l) + length (bodiesFor (rowsOf l) (count l))
   length-new = runs-length l (file-runs l done)
 
   module _ (bytes : Elements 8 l) (i : ℕ) (h : i < count l) where
