@@ -28,10 +28,15 @@ enum {
     ROW = 203,         /* one row after another of the last block of a file that was checked before, looked up in its body */
     FIND_ALL = 204,    /* a search that finds every row of the file */
     FIND_HALF = 205,   /* a search that finds about half of the rows of each block */
+    APART = 206,       /* a renumbering by pairs that no block's range meets */
+    MET = 207,         /* one by pairs that every block's range meets and no row has, so that every row is looked up */
+    CHANGED = 208,     /* one that changes every row */
     NO_CALL = 255,
     BLOCK = 1024,
     DRAWER = 16,
     MOST = 256,
+    PAIRS = 1000,
+    SPREAD = 131072, /* a block of kind 0 or 1 has numbers from its smallest on, less than so many */
     FIRST = 5, /* the first value of a block, and the reference */
     STEP = 37  /* from each value to the next, modulo 256 */
 };
@@ -133,6 +138,42 @@ static size_t file_of_one(const struct request *r)
     return length;
 }
 
+/* The pairs of a renumbering, rising by the old and by the new number, so that the order is that of the places. */
+static uint64_t old_numbers[BLOCK], new_numbers[BLOCK], order[BLOCK];
+static size_t pairs;
+
+/* The lowest number from `at` on that no row of the block has; `is_held` says which those are, counted from its smallest. */
+static size_t next_free(const uint8_t *is_held, size_t at)
+{
+    while (is_held[at % SPREAD]) {
+        at++;
+    }
+    return at;
+}
+
+/* Chooses the pairs: far above every row; between the smallest and the largest of a block; or every number of a block, with a new one far above. */
+static void choose_pairs(const struct request *r)
+{
+    static uint8_t is_held[SPREAD];
+    const uint64_t smallest = values[0], above = (uint64_t)1 << 62;
+    memset(is_held, 0, sizeof is_held);
+    for (size_t i = 0; i < BLOCK; i++) {
+        is_held[(values[i] - smallest) % SPREAD] = 1;
+        order[i] = i;
+    }
+    pairs = r->op == CHANGED ? 0 : PAIRS;
+    for (size_t i = 0; i < pairs; i++) {
+        const size_t at = i * (SPREAD / PAIRS);
+        old_numbers[i] = r->op == APART ? above + i : smallest + next_free(is_held, at);
+        new_numbers[i] = r->op == APART ? above + PAIRS + i : smallest + next_free(is_held, at + SPREAD / PAIRS / 2);
+    }
+    for (size_t at = 0; r->op == CHANGED && at < SPREAD; at++) {
+        if (is_held[at]) {
+            old_numbers[pairs] = smallest + at, new_numbers[pairs] = above + at, pairs++;
+        }
+    }
+}
+
 /* Lays down the file of so many such blocks. */
 static int fill_file(const struct request *r)
 {
@@ -147,6 +188,7 @@ static int fill_file(const struct request *r)
         memcpy(file + 4 + blocks * entry + i * body, made + 4 + entry, body);
         memcpy(values + i * BLOCK, values, sizeof rows);
     }
+    choose_pairs(r);
     front_length = 4 + blocks * entry;
     file_length = front_length + blocks * body;
     last_start = file_length - (blocks == 0 ? 0 : body), last_row = (blocks == 0 ? 0 : blocks - 1) * BLOCK;
@@ -181,6 +223,15 @@ static size_t find(uint64_t low, uint64_t high, size_t least)
     return answer + (found < least);
 }
 
+/* A renumbering by these pairs. */
+static size_t renumber(const struct request *r)
+{
+    size_t length, changed, place, answer;
+    answer = fascjoldi_file_renumber(
+        file, file_length, old_numbers, pairs, new_numbers, pairs, order, pairs, made, sizeof made, &length, &changed, &place);
+    return answer + (changed != (r->op == CHANGED ? (size_t)r->blocks * BLOCK : 0));
+}
+
 /* The calls on a file. A search is for all numbers, and finds the rows of the one block; where there are none or more, it is for a number that
    no block has. What is known of a result is held to it: 1 is added to the answer where it differs. */
 static size_t call_file(const struct request *r, size_t turn)
@@ -203,6 +254,9 @@ static size_t call_file(const struct request *r, size_t turn)
         return answer + (found != (blocks == 1 ? BLOCK : 0));
     case 21: return fascjoldi_file_rewrite(file, file_length, made, sizeof made, &found, &place);
     case 22: return fascjoldi_file_check_canonical(file, file_length, &place);
+    case APART:
+    case MET:
+    case CHANGED: return renumber(r);
     case PASS: return pass();
     case FIND_ALL: return find(0, ~(uint64_t)0, blocks * BLOCK);
     case FIND_HALF: return find(values[0] + 32768, values[0] + 98303, blocks * BLOCK / 3);

@@ -1,7 +1,7 @@
--- Document 02, Item 11, of the call: each number exactly when the document gives it, a refused call leaves the output
--- as it was, and a call that is done leaves the new file at the front and the bytes behind it. The outcome is that of a
--- write of the file's rows. The new file has these rows and is of edition 2 with no kind 3, a file that the writer
--- wrote is rewritten as it is, and so a second rewrite changes nothing.
+-- R112 to R114 of the call: each number exactly when R114 gives it, a refused call leaves the output as it was, and a
+-- call that is done leaves the new file at the front and the bytes behind it. The outcome is that of a write of the
+-- file's rows. The new file has these rows and is of edition 2 with no kind 3, a file that the writer wrote is rewritten
+-- as it is, and so a second rewrite changes nothing.
 -- Assumes nothing.
 use mathlib.Core.List.{List}
 use mathlib.Core.Logic.{_↔_}
@@ -54,7 +54,7 @@ module _ (l output : List ℕ) where
             ]
       ]
 
-  -- Each answer is given exactly when document 02 gives the reason.
+  -- Each answer is given exactly when it has its reason.
   pub rewrite-exactly : (a : FileAnswer) → (fileAnswer (rewriteTests l output) ≡ a) ↔ RewriteReason l output a
   rewrite-exactly a = ((λ e. subst (RewriteReason l output) (sym (gives (reason .1)) ∙ e) (reason .1)), gives)
 
@@ -121,7 +121,7 @@ module _ (l : List ℕ) (bytes : Elements 8 l) (done : fileAnswer (fileTests l) 
   pub rewrite-twice : newFile (newFile l) ≡ newFile l
   rewrite-twice = ap fileOf new-rows
 
--- ---- the worked files of Item 1, which are of edition 1
+-- ---- the worked files, which are of edition 1
 
 pub rewrites-none : newFile Rows.noBlocks ≡ FileWritten.noBlocks
 rewrites-none = ap fileOf Rows.worked-none ∙ FileWritten.writes-none

@@ -1,4 +1,4 @@
--- When each number of Item 11 is given to a rewrite, said a second time: by the reader's reasons, and in plain
+-- When each number of R114 is given to a rewrite, said a second time: by the reader's reasons, and in plain
 -- arithmetic behind them. It guards the tests in Rewrite: that a call gets an answer exactly when it has the reason for
 -- it here is a theorem.
 -- Assumes nothing.

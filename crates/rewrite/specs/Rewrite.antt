@@ -1,4 +1,4 @@
--- What the rewrite of a column file answers and leaves (document 02, Item 11). `l` is the file, a list of bytes.
+-- What the rewrite of a column file answers and leaves (R112 to R114). `l` is the file, a list of bytes.
 -- Assumes nothing.
 use mathlib.Core.List.{List, [], _∷_, _++_}
 use Prim.Native.Nat.{ℕ}
