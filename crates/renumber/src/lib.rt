@@ -190,9 +190,9 @@ fn refuse(file: &[u8], otherwise: RenumberAnswer) -> Renumbered
         (pick (isDone (fileAnswer (fileTests (now (file .entry))))) otherwise (File (fileAnswer (fileTests (now (file .entry))))))
         ⌝ }
 {
-    let answer = files::check(file);
-    if answer.number() != 0 {
-        return Renumbered::Refused(RenumberAnswer::File(answer));
+    let checked = files::check(file);
+    if checked.number() != 0 {
+        return Renumbered::Refused(RenumberAnswer::File(checked));
     }
     Renumbered::Refused(otherwise)
 }
