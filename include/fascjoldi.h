@@ -18,7 +18,7 @@
  * *place, *value, *words and *length, are written by every call, also when it is refused. A buffer, which is a pointer with a
  * length, is written only where the number is FASCJOLDI_DONE, or as its function says: a refused call leaves each buffer as it
  * was. Where several numbers apply to a call on blocks the lowest is given; a call on a file goes through its tests in the order
- * of docs/FORMAT.md. The functions keep nothing between calls, so several threads may call them at once, each with buffers of its
+ * of docs/FORMAT.md, and then through those that are its own, 18 to 22 of a renumbering before FASCJOLDI_ROOM. The functions keep nothing between calls, so several threads may call them at once, each with buffers of its
  * own.
  *
  * T stands for the bits of an element, 8, 16, 32 or 64, and LANES for 1024 / T. A packed block has LANES times its width elements.
@@ -92,7 +92,7 @@ enum fascjoldi_part {
 
 /* ---- The calls on blocks, at four element sizes. */
 
-/* Packs 1,024 values at `width` bits each. */
+/* Packs 1,024 values at `width` bits each; what a value has above them is cut off. */
 size_t fascjoldi_pack_u8(size_t width, const uint8_t *values, size_t values_length, uint8_t *packed, size_t packed_length,
     size_t *place);
 size_t fascjoldi_pack_u16(size_t width, const uint16_t *values, size_t values_length, uint16_t *packed, size_t packed_length,

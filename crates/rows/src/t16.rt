@@ -46,8 +46,8 @@ pub fn store(out: &mut [u16], x: [u16; LANES])
     }
 }
 
-// Each value divided by 2^s. Here and below the shift or the width is taken modulo T. No caller passes T or more; the
-// remainder costs an `and` outside the loop, where a test would stay in the code.
+// Each value divided by 2^(s mod T). No caller passes T or more; the remainder costs an `and` outside the loop, where a
+// test would stay in the code.
 pub fn shr(x: [u16; LANES], s: usize) -> [u16; LANES]
     ensures { λ r. ⌜ r ≡ shrOf t16 x s ⌝ }
 {
@@ -61,7 +61,7 @@ pub fn shr(x: [u16; LANES], s: usize) -> [u16; LANES]
     y
 }
 
-// Each value of x, with the bits set that the value of y in the same lane, times 2^s, has below 2^T.
+// Each value of x, with the bits set that the value of y in the same lane, times 2^(s mod T), has below 2^T.
 pub fn or_shl(x: [u16; LANES], y: [u16; LANES], s: usize) -> [u16; LANES]
     ensures { λ r. ⌜ r ≡ orShlOf t16 x y s ⌝ }
 {
@@ -75,7 +75,7 @@ pub fn or_shl(x: [u16; LANES], y: [u16; LANES], s: usize) -> [u16; LANES]
     z
 }
 
-// Each value modulo 2^w.
+// Each value modulo 2^(w mod T).
 pub fn mask(x: [u16; LANES], w: usize) -> [u16; LANES]
     ensures { λ r. ⌜ r ≡ maskOf t16 x w ⌝ }
 {

@@ -46,8 +46,8 @@ pub fn store(out: &mut [u32], x: [u32; LANES])
     }
 }
 
-// Each value divided by 2^s. Here and below the shift or the width is taken modulo T. No caller passes T or more; the
-// remainder costs an `and` outside the loop, where a test would stay in the code.
+// Each value divided by 2^(s mod T). No caller passes T or more; the remainder costs an `and` outside the loop, where a
+// test would stay in the code.
 pub fn shr(x: [u32; LANES], s: usize) -> [u32; LANES]
     ensures { λ r. ⌜ r ≡ shrOf t32 x s ⌝ }
 {
@@ -61,7 +61,7 @@ pub fn shr(x: [u32; LANES], s: usize) -> [u32; LANES]
     y
 }
 
-// Each value of x, with the bits set that the value of y in the same lane, times 2^s, has below 2^T.
+// Each value of x, with the bits set that the value of y in the same lane, times 2^(s mod T), has below 2^T.
 pub fn or_shl(x: [u32; LANES], y: [u32; LANES], s: usize) -> [u32; LANES]
     ensures { λ r. ⌜ r ≡ orShlOf t32 x y s ⌝ }
 {
@@ -75,7 +75,7 @@ pub fn or_shl(x: [u32; LANES], y: [u32; LANES], s: usize) -> [u32; LANES]
     z
 }
 
-// Each value modulo 2^w.
+// Each value modulo 2^(w mod T).
 pub fn mask(x: [u32; LANES], w: usize) -> [u32; LANES]
     ensures { λ r. ⌜ r ≡ maskOf t32 x w ⌝ }
 {

@@ -45,8 +45,8 @@ pub fn store(out: &mut [u64], x: [u64; LANES])
     }
 }
 
-// Each value divided by 2^s. Here and below the shift or the width is taken modulo T. No caller passes T or more; the
-// remainder costs an `and` outside the loop, where a test would stay in the code.
+// Each value divided by 2^(s mod T). No caller passes T or more; the remainder costs an `and` outside the loop, where a
+// test would stay in the code.
 pub fn shr(x: [u64; LANES], s: usize) -> [u64; LANES]
     ensures { λ r. ⌜ r ≡ shrOf t64 x s ⌝ }
 {
@@ -60,7 +60,7 @@ pub fn shr(x: [u64; LANES], s: usize) -> [u64; LANES]
     y
 }
 
-// Each value of x, with the bits set that the value of y in the same lane, times 2^s, has below 2^T.
+// Each value of x, with the bits set that the value of y in the same lane, times 2^(s mod T), has below 2^T.
 pub fn or_shl(x: [u64; LANES], y: [u64; LANES], s: usize) -> [u64; LANES]
     ensures { λ r. ⌜ r ≡ orShlOf t64 x y s ⌝ }
 {
@@ -74,7 +74,7 @@ pub fn or_shl(x: [u64; LANES], y: [u64; LANES], s: usize) -> [u64; LANES]
     z
 }
 
-// Each value modulo 2^w.
+// Each value modulo 2^(w mod T).
 pub fn mask(x: [u64; LANES], w: usize) -> [u64; LANES]
     ensures { λ r. ⌜ r ≡ maskOf t64 x w ⌝ }
 {
