@@ -1,5 +1,5 @@
 -- What access to one place and access by a list take and give, and what the second leaves in its output, for every
--- input (R37 to R45). What a call answers is `answerFor` what it takes.
+-- input (R37, R38, R40, R42, R44). What a call answers is `answerFor` what it takes. The counts stand in Counts.
 -- Assumes nothing.
 use mathlib.Core.List.{List, [], _∷_}
 use Prim.Native.Nat.{ℕ}
@@ -19,8 +19,8 @@ use Rattle.access.specs.Counts.{countAt, listWords}
 abbrev pub singleTakes : (t w : ℕ) (packed : List ℕ) (index : ℕ) → List Taken
 singleTakes t w packed index = a-width t w ∷ a-packed t w packed ∷ an-index index ∷ []
 
--- The single answer is the value and its count of words where the call is done, and else the refusal. The enum of each
--- element size has these two cases; what each of them stands for is said in t8, t16, t32 and t64, once for each enum.
+-- The single answer is the value and its count of words where the call is done, and else the refusal. The type of the
+-- answer at each element size, `Single`, has these two cases; what they stand for is said in t8, t16, t32 and t64.
 abbrev pub single : {S : Type 0} → (value : (v count : ℕ) → S) (refused : Answer → S) (answer : Answer) (v count : ℕ) → S
 single value refused a v n = pick (isDone a) (value v n) (refused a)
 

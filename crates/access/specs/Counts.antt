@@ -1,4 +1,4 @@
--- How many packed words a lookup reads, for one place (R39, R41) and for a list of places (R43).
+-- In how many packed words a value stands, for one place (R39, R41), and for a list of places in all (R43).
 -- Assumes nothing.
 use mathlib.Core.List.{List, [], _∷_}
 use mathlib.Core.Path.{_≡_}
@@ -31,7 +31,7 @@ pub record BitIn (t w r k : ℕ) : Type 0 where
 abbrev pub noCount : ℕ
 noCount = largestU64
 
--- There is a count where the width is at most t and the place is below 1,024.
+-- There is a count where the width is at most t and the place is below 1,024; else the largest u64 stands for it.
 unfoldable pub wordsAt : (t w p : ℕ) → ℕ
 wordsAt t w p = pick (both (leb w t) (ltb p 1024)) (countAt t w p) noCount
 
@@ -44,7 +44,7 @@ unfoldable pub sumOf : List ℕ → ℕ
 sumOf [] = 0
 sumOf (x ∷ xs) = x + sumOf xs
 
--- No sum of a list is above the largest u64.
+-- What is given for a list is never above the largest u64.
 abbrev pub sumCap : ℕ
 sumCap = largestU64
 
@@ -52,6 +52,6 @@ sumCap = largestU64
 abbrev pub held : ℕ → ℕ
 held n = min n sumCap
 
--- A list of indices reads this many words.
+-- The values at a list of indices stand in this many words, the sum of their counts, held there.
 unfoldable pub listWords : (t w : ℕ) (indices : List ℕ) → ℕ
 listWords t w indices = held (sumOf (countsOf t w indices))

@@ -18,7 +18,7 @@ pub record BitBlock (b : List ℕ) : Type 0 where
 abbrev pub bitOf : (x i : ℕ) → ℕ
 bitOf x i = digit 1 x i
 
--- Bit p of a block is bit p mod 64 of number p / 64, lowest first. This is the little-endian byte reading.
+-- Bit p of a bit block is bit p mod 64 of number p / 64, lowest first: so its bytes stand with the lowest in front.
 unfoldable pub bit : (b : List ℕ) (p : ℕ) → ℕ
 bit b p = bitOf (getD b (p / 64) 0) (p % 64)
 

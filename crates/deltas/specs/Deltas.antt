@@ -25,12 +25,12 @@ unfoldable pub summed : (t : ℕ) (f : ℕ → ℕ) (b r : ℕ) → ℕ
 summed t f b zero = plus t (f 0) b
 summed t f b (suc r) = plus t (f (suc r)) (summed t f b r)
 
--- Undelta sums the numbers of the block.
+-- Undelta gives each place the sum along its lane up to its row, from the base of that lane on.
 unfoldable pub undeltaOf : (t : ℕ) (numbers base : List ℕ) → List ℕ
 undeltaOf t numbers base =
     tab 1024 (λ p. summed t (λ r. getD numbers (place r (lane t p)) 0) (getD base (lane t p) 0) (row t p))
 
--- `undelta_pack` sums the digits that the lane's packed number holds.
+-- `undelta_pack` gives the same sum, of the digits that the lane's packed number holds.
 unfoldable pub undeltaPackOf : (t w : ℕ) (packed base : List ℕ) → List ℕ
 undeltaPackOf t w packed base =
     tab 1024 (λ p. summed t (digit w (wordsNumber t w packed (lane t p))) (getD base (lane t p) 0) (row t p))

@@ -24,7 +24,7 @@ pub data DrawerReason (t w m : ℕ) (values packed : List ℕ) : Answer → Type
   too-wide : t < w → DrawerReason t w m values packed Width
   -- 2: there are more than 256 blocks, or not 1,024 values for each.
   no-blocks : w ≤ t → (256 < m) ⊎ (length values ≢ m * 1024) → DrawerReason t w m values packed Block
-  -- 3: there are not so many packed words.
+  -- 3: the packed words are not LANES · w for each block.
   no-packed : w ≤ t → m ≤ 256 → length values ≡ m * 1024 → length packed ≢ m * (lanes t * w) → DrawerReason t w m values packed Packed
-  -- 0: nothing of that.
+  -- 0: nothing of that is the case.
   fits : Fits t w m values packed → DrawerReason t w m values packed Done

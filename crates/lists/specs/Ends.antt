@@ -10,7 +10,7 @@ unfoldable pub highestOf : List ℕ → ℕ
 highestOf [] = 0
 highestOf (x ∷ xs) = max x (highestOf xs)
 
--- This is the lowest number of the list, and where the list is empty the largest number of 64 bits.
+-- This is the lowest number of a list of numbers of 64 bits, and the largest of them where the list is empty.
 unfoldable pub lowestOf : List ℕ → ℕ
 lowestOf [] = 2 ^ 64 - 1
 lowestOf (x ∷ xs) = min x (lowestOf xs)

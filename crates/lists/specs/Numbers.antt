@@ -21,7 +21,7 @@ plus t a b = (a + b) % 2 ^ t
 unfoldable pub minus : (t a b : ℕ) → ℕ
 minus t a b = (a + (2 ^ t - b)) % 2 ^ t
 
--- Every number of the list is one of t bits, as every element is. The laws ask for this where they need it; of a slice
--- of elements the prover knows it.
+-- Every number of the list is one of t bits, as every element is. The laws ask for this where they need it; of a list
+-- that is handed to a call the prover knows it by its type.
 abbrev pub Elements : (t : ℕ) (list : List ℕ) → Type 0
 Elements t list = (i : ℕ) → getD list i 0 < 2 ^ t

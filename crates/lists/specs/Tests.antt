@@ -17,7 +17,7 @@ abbrev pub Test : (A : Type 0) → Type 0
 Test A = Bool × A
 
 -- The tests of a call stand in a list. The first one that fails gives its refusal, and where every one passes the
--- call is done. The layers differ in their answers, and all of them go through their tests so.
+-- call is done. The calls on blocks and those on files differ in their answers, and all go through their tests so.
 abbrev pub firstRefusal : {A : Type 0} → (done : A) → List (Test A) → A
 firstRefusal done [] = done
 firstRefusal done (x ∷ xs) = unless (x .0) (x .1) (firstRefusal done xs)

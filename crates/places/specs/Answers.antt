@@ -1,5 +1,5 @@
--- What a call answers: the numbers 0 to 7 with their places (R143, R163), and what a call leaves in a lent buffer (R4).
--- The table's tests stand in Takes.
+-- What a call answers: the numbers 0 to 7 and their places (R143), by one definition each (R163), and what a call
+-- leaves in a lent buffer (R4). The table's tests stand in Takes.
 -- Assumes nothing.
 use mathlib.Core.Bool.{Bool}
 use Prim.Native.Nat.{ℕ}

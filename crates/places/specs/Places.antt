@@ -1,5 +1,5 @@
--- Where the values of a block stand (R15 to R17), where its rows start (R19), and where the value transpose takes each
--- value from (R21).
+-- Where the values of a block stand (R15 to R17), where the next row starts (R19), and where the value transpose takes
+-- each value from (R21). At element size t a block has t rows, below t, and LANES lanes, below LANES.
 -- Assumes nothing.
 use mathlib.Core.List.{List, [], _∷_}
 use Prim.Native.Nat.{ℕ, _+_, _-_, _*_, _/_, _%_}
@@ -12,7 +12,7 @@ use Rattle.places.specs.Sizes.{lanes}
 unfoldable pub order : ℕ → ℕ
 order n = getD (0 ∷ 4 ∷ 2 ∷ 6 ∷ 1 ∷ 5 ∷ 3 ∷ 7 ∷ []) n 0
 
--- Row r of lane l stands at this place.
+-- Row r of lane l of a block stands at this place.
 unfoldable pub place : (r l : ℕ) → ℕ
 place r l = order (r / 8) * 16 + (r % 8) * 128 + l
 
@@ -26,15 +26,15 @@ nextStart q r = pick (eqb (r % 8) 0) (place (r / 8 % 8 * 8) 0) (q % 1024 + 128)
 unfoldable pub lane : (t p : ℕ) → ℕ
 lane t p = p % lanes t
 
--- This is its row. That a place has no other lane and row is a law: `place` takes the two back to the place, and they
--- take every `place r l` back to l and r.
+-- This is its row. That a place below 1,024 has no other lane and row is a law: `place` takes the two back to the
+-- place, and they take `place r l` of a row and a lane of the block back to l and r.
 unfoldable pub row : (t p : ℕ) → ℕ
 row t p = order ((p % 128 - lane t p) / 16) * 8 + p / 128
 
--- This is the source of place i under the value transpose.
+-- This is the source of place i below 1,024 under the value transpose.
 unfoldable pub source : ℕ → ℕ
 source i = (i % 16) * 64 + order ((i / 16) % 8) * 8 + i / 128
 
--- This is the place whose source is j. That there is no other such place is a law.
+-- This is the place whose source is j, for j below 1,024. That there is no other such place is a law.
 unfoldable pub target : ℕ → ℕ
 target j = (j % 8) * 128 + order ((j / 8) % 8) * 16 + j / 64

@@ -1,6 +1,6 @@
 -- The table of the numbers 1 to 7 (R143): what a call can take, the test that the table makes of each, and the refusal
--- where the test fails. The table stands here once. Each call has a list of what it takes, beside the call, in the
--- order of the table's numbers, so the lowest number that applies is the one that is given (R5).
+-- where the test fails. The table of the calls on one block stands here once. Each call has a list of what it takes,
+-- beside the call, in the order of the table's numbers, so the lowest number that applies is given (R5).
 -- Assumes nothing.
 use mathlib.Core.List.{List, map}
 use Prim.Native.Nat.{ℕ, _*_}
@@ -12,13 +12,13 @@ use Rattle.places.specs.declared.Answer.{Answer}
 use Rattle.places.specs.declared.Answer.the-variants.{Done, Width, Block, Packed, Base, Lists, Index, Dictionary}
 use Rattle.places.specs.Sizes.{lanes}
 
--- These are the things that a call can take and that the table speaks of.
+-- These are the things that a call can take and that the table speaks of: a call takes
 pub data Taken : Type 0 where
-  -- A call takes a width w, at element size t;
+  -- a width w, at element size t;
   a-width : (t w : ℕ) → Taken
-  -- a block of values or of index places;
+  -- a block of values or of indices;
   a-block : (values : List ℕ) → Taken
-  -- the packed words, at that size and width;
+  -- the packed words, at element size t and width w;
   a-packed : (t w : ℕ) (words : List ℕ) → Taken
   -- the base of each lane;
   a-base : (t : ℕ) (starts : List ℕ) → Taken

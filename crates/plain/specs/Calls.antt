@@ -1,5 +1,5 @@
--- What the plain calls take and give, and what each leaves in the buffer lent to it, for every input (R76, R77). What a
--- call answers is `answerFor` what it takes.
+-- What the plain calls take and give, and what each leaves in the buffer lent to it, for every input (R76). What a call
+-- answers is `answerFor` what it takes, by the table of R143. That both engines agree (R77) is a law of agreement.
 -- Assumes nothing.
 use mathlib.Core.List.{List, [], _∷_}
 use Prim.Native.Nat.{ℕ}
@@ -26,11 +26,12 @@ plainUnpackLeaves t w values packed = left (answerFor (plainTakes t w values pac
 abbrev pub plainSingleTakes : (t w : ℕ) (packed : List ℕ) (index : ℕ) → List Taken
 plainSingleTakes t w packed index = a-width t w ∷ a-packed t w packed ∷ an-index index ∷ []
 
--- It gives the value and its count of words where it is done, and else the refusal. The enum of each element size has
--- these two cases; what each of them stands for is said in t8, t16, t32 and t64, once for each enum.
+-- It gives the value and its count of words where it is done, and else the refusal. The type of the answer at each
+-- element size, `Single`, has these two cases; what they stand for is said in t8, t16, t32 and t64.
 abbrev pub given : {S : Type 0} → (value : (v count : ℕ) → S) (refused : Answer → S) (answer : Answer) (v count : ℕ) → S
 given value refused a v n = pick (isDone a) (value v n) (refused a)
 
+-- Single access gives this.
 unfoldable pub plainSingle : {S : Type 0} → (value : (v count : ℕ) → S) (refused : Answer → S) (t w : ℕ) (packed : List ℕ) (index : ℕ) → S
 plainSingle value refused t w packed index =
     given value refused (answerFor (plainSingleTakes t w packed index)) (plainValue t w packed index) (plainCount t w index)

@@ -59,7 +59,7 @@ pub record Laid (t w : ℕ) (values packed : List ℕ) : Type 0 where
   pub bits : (l r b : ℕ) → l < lanes t → r < t → b < w → bitAt t w packed l r b ≡ bit (getD values (place r l) 0) b
 
 -- Bit b of row r comes from a word that no bit before it came from where it is the first one, or the bit before it came
--- from another word.
+-- from another word: then this is 1, and else 0.
 unfoldable pub newWord : (t w r b : ℕ) → ℕ
 newWord t w r b = pick (eqb b 0) 1 (pick (eqb (wordOf t w r b) (wordOf t w r (b - 1))) 0 1)
 

@@ -1,5 +1,5 @@
 -- Written by tools/sizes from the text of size 64: edit that one, and run tools/sizes.
--- What the two cases of the single answer stand for at this element size (R163): the answer with its number and place,
+-- What the two cases of the single answer stand for at this element size, by one definition each (R163): the answer,
 -- the value, and how many packed words its bits come from.
 -- Assumes nothing.
 use Prim.Native.Nat.{ℕ}
@@ -19,7 +19,7 @@ abbrev pub valueOf : Single → ℕ
 valueOf (Value v n) = v
 valueOf (Refused a) = 0
 
--- A refused lookup has no count.
+-- After a refusal there is no count, and the largest u8 stands for it.
 abbrev pub wordsOf : Single → ℕ
 wordsOf (Value v n) = n
 wordsOf (Refused a) = noCount

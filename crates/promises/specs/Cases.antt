@@ -57,8 +57,8 @@ abbrev pub SameAt : (places x y : List ℕ) → Type 0
 SameAt [] x y = Unit
 SameAt (k ∷ ks) x y = (getD x k 0 ≡ getD y k 0) × SameAt ks x y
 
--- Single access at place p needs the word at k: two packed blocks that differ in that word alone give different
--- answers. The enum is that of t 8, the one size that a case has.
+-- Single access at place p needs the word at k: there are two packed blocks that differ in that word alone and give
+-- different answers. The answers are those of t 8, since the one case that asks for it is at that size.
 pub record Needed (t w p k : ℕ) : Type 0 where
   pub one : List ℕ
   pub other : List ℕ
@@ -126,7 +126,7 @@ Holds (steps t base rows differences) =
 Holds (runs values indices block) =
     (a b : ℕ) (places output : List ℕ) → length places ≡ 1024 → length output ≡ 1024 → Whole places indices
     → (answerFor (decodeTakes (values a b) places output) ≡ Done) × Whole (decodeLeaves (values a b) places output) (block a b)
--- In every bit block, output bit q is input bit p.
+-- Bit p goes to bit q, and in the transpose of every list of numbers bit q is bit p of the list.
 Holds (moves t p q) = (goesTo t p ≡ q) × ((b : List ℕ) → bit (transposeBitsOf t b) q ≡ bit b p)
 
 -- P6's rows hold these numbers.

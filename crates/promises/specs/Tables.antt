@@ -1,7 +1,7 @@
 -- The table of the numbers 0 to 7 (R143), said a second time, in plain arithmetic and without a test or a search: when
 -- each number applies, and that the lowest number that applies is given (R5). It guards the table that the calls go by,
--- which stands in places, Takes: that the two agree, for whatever a call takes, is shown in proofs/Tables.antt, and
--- proofs/Numbers.antt spells it out call by call.
+-- which stands in places, Takes: that the two agree, for a list in the order of the numbers, as that of every call is,
+-- is shown in proofs/Tables.antt, and proofs/Numbers.antt spells it out call by call.
 -- Assumes nothing.
 use mathlib.Core.List.{List, [], _∷_}
 use mathlib.Core.Logic.{_↔_, _⊎_, _≢_}
@@ -19,7 +19,7 @@ pub record Lowest (limit : ℕ) (list : List ℕ) (p : ℕ) : Type 0 where
   pub beyond : limit ≤ getD list p 0
   pub earlier : (i : ℕ) → i < p → getD list i 0 < limit
 
--- This is the number of the table that each of them can be refused with.
+-- This is the number of the table that each thing that a call takes can be refused with.
 abbrev pub numberFor : Taken → ℕ
 numberFor (a-width t w) = 1
 numberFor (a-block values) = 2

@@ -1,4 +1,4 @@
--- The operations on a row: LANES values that stand side by side in a block, as one value. Each has its plain
+-- The operations on a row (R20): LANES values that stand side by side in a block, as one value. Each has its plain
 -- arithmetical meaning, place by place, for every row of elements, that is of numbers below 2^t. A shift or a width is
 -- taken modulo t, so that every number has a meaning.
 -- Assumes nothing.
@@ -16,7 +16,7 @@ use Rattle.places.specs.Sizes.{lanes}
 unfoldable pub splatOf : (t value : ℕ) → List ℕ
 splatOf t value = tab (lanes t) (λ _. value)
 
--- `load` gives the first LANES values of the source, or zeros where it has fewer.
+-- `load` gives the first LANES values of the source, or LANES zeros where it has fewer.
 unfoldable pub loadOf : (t : ℕ) (source : List ℕ) → List ℕ
 loadOf t source = pick (leb (lanes t) (length source)) (tab (lanes t) (λ l. getD source l 0)) (splatOf t 0)
 

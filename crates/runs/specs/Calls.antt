@@ -7,7 +7,7 @@ use Rattle.places.specs.Answers.{left}
 use Rattle.places.specs.Takes.{Taken, a-block, dictionary-indices, answerFor}
 use Rattle.runs.specs.Runs.{decodeOf}
 
--- Decode takes two blocks, the index places and the output, and a dictionary of any length that has every index.
+-- Decode takes two blocks, the indices and the output, and a dictionary of any length, which is tested for every index.
 abbrev pub decodeTakes : (dictionary indices output : List ℕ) → List Taken
 decodeTakes dictionary indices output = a-block indices ∷ a-block output ∷ dictionary-indices dictionary indices ∷ []
 
