@@ -5,7 +5,8 @@
  * `turns` times more, between two calls of `mark`, where a counter can take the count; what the call needs is laid down before. Then a
  * line is printed, `answers A`: 0 where every call was done, and gave what is known of it here.
  *
- * The calls are numbered as in docs/CASES.md. Further numbers are those of the steps on one body, and of a turn that makes no call.
+ * The calls are numbered as in docs/CASES.md. Further numbers are listed below: whole jobs, steps on one body, and a turn that makes no
+ * call.
  */
 #include "fascjoldi.h"
 #include "out.h"
@@ -37,6 +38,7 @@ enum {
     MOST = 256,
     PAIRS = 1000,
     SPREAD = 131072, /* a block of kind 0 or 1 has numbers from its smallest on, less than so many */
+    APART_BY = 130,  /* from one pair to the next, so that 1,000 are below the block's largest */
     FIRST = 5, /* the first value of a block, and the reference */
     STEP = 37  /* from each value to the next, modulo 256 */
 };
@@ -163,9 +165,9 @@ static void choose_pairs(const struct request *r)
     }
     pairs = r->op == CHANGED ? 0 : PAIRS;
     for (size_t i = 0; i < pairs; i++) {
-        const size_t at = i * (SPREAD / PAIRS);
+        const size_t at = i * APART_BY;
         old_numbers[i] = r->op == APART ? above + i : smallest + next_free(is_held, at);
-        new_numbers[i] = r->op == APART ? above + PAIRS + i : smallest + next_free(is_held, at + SPREAD / PAIRS / 2);
+        new_numbers[i] = r->op == APART ? above + PAIRS + i : smallest + next_free(is_held, at + APART_BY / 2);
     }
     for (size_t at = 0; r->op == CHANGED && at < SPREAD; at++) {
         if (is_held[at]) {
@@ -186,7 +188,9 @@ static int fill_file(const struct request *r)
     for (size_t i = 0; i < blocks; i++) {
         memcpy(file + 4 + i * entry, made + 4, entry);
         memcpy(file + 4 + blocks * entry + i * body, made + 4 + entry, body);
-        memcpy(values + i * BLOCK, values, sizeof rows);
+        if (i != 0) {
+            memcpy(values + i * BLOCK, values, BLOCK * sizeof values[0]);
+        }
     }
     choose_pairs(r);
     front_length = 4 + blocks * entry;

@@ -14,6 +14,7 @@ tabFrom s (suc n) f = f s ∷ tabFrom (suc s) n f
 unfoldable pub tab : {A : Type 0} → ℕ → (ℕ → A) → List A
 tab n f = tabFrom 0 n f
 
--- This is the list l with x written over it from place p on. Where x does not fit, the list grows by what is over.
+-- This is the list l with x written over it from place p on, for p within the list or at its end. Where x is longer
+-- than the rest, the list grows.
 unfoldable pub over : {A : Type 0} → (p : ℕ) (x l : List A) → List A
 over p x l = take p l ++ x ++ drop (p + length x) l

@@ -15,7 +15,7 @@ use Rattle.renumber.specs.Pairs.{renumbered, along, isBehind}
 abbrev pub Within : (n : ℕ) (order : List ℕ) → Type 0
 Within n order = (i : ℕ) → i < length order → getD order i 0 < n
 
--- The order has a place for each pair, and each place but the first comes behind the one before it.
+-- The order has a place for each pair, and each place comes behind every one before it.
 pub record Ordered (new order : List ℕ) : Type 0 where
   pub long : length order ≡ length new
   pub places : Within (length new) order

@@ -1,6 +1,6 @@
 -- The list of pairs that a renumbering goes by: pair i is the old number at place i and the new number at place i, and
--- `order` has the places of the pairs by rising new number. What a number becomes, and when such lists are refused
--- (docs/DECISIONS.md, numbers 18 to 22).
+-- `order` has the places of the pairs by rising new number. What a number becomes (R133), and when such lists are
+-- refused (R135).
 -- Assumes nothing.
 use mathlib.Core.Bool.{Bool}
 use mathlib.Core.List.{List}

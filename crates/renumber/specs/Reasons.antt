@@ -1,6 +1,6 @@
--- When each number is given to a renumbering, said a second time: by the reader's reasons, and in plain arithmetic behind
--- them, without a test or a search. It guards the tests in Renumber: that a call gets an answer exactly when it has the
--- reason for it here is a theorem.
+-- When each number of R135 is given to a renumbering, said a second time: by the reader's reasons, and in plain
+-- arithmetic behind them, without a test or a search. It guards the tests in Renumber: that a call gets an answer
+-- exactly when it has the reason for it here is a theorem.
 -- Assumes nothing.
 use mathlib.Core.List.{List}
 use mathlib.Core.Logic.{_⊎_, _≢_}

@@ -1,6 +1,5 @@
--- What the renumbering of a column file answers and leaves (docs/DECISIONS.md, numbers 18 to 22). `l` is the file, a list
--- of bytes; pair i is the old number and the new number at place i, and `order` has the places of the pairs by rising new
--- number.
+-- What the renumbering of a column file answers and leaves (R132 to R135). `l` is the file, a list of bytes; pair i is
+-- the old number and the new number at place i, and `order` has the places of the pairs by rising new number.
 -- Assumes nothing.
 use mathlib.Core.Bool.{Bool}
 use mathlib.Core.List.{List, [], _∷_, map}

@@ -1,16 +1,18 @@
-// A column file is renumbered: by a list of pairs, old and new, every row whose number is listed gets its new number,
-// and every other row stays. The new file is what the writer gives for these rows. Beside the file, the lists and the
-// output there is room for one block of numbers, for the candidates of one block, and for four numbers of each block.
+// A column file is renumbered (R132 to R136): by a list of pairs, old and new, every row whose number is listed gets its
+// new number, and every other row stays. The new file is what the writer gives for these rows. Beside the file, the
+// lists and the output there is room for one block of numbers, for the candidates of one block, and for four numbers of
+// each block.
 //
-// The blocks are gone through twice behind the check of contents and run indices. First each is laid down, held to the
-// range that its entry says, which is the last of the reader's tests, searched for a number that would become one with
-// another, renumbered and measured; and of it is kept what it is laid down by, and how many of its numbers change. Then,
-// where there is room, each is laid down again, renumbered where something changes, and written by what was kept. So the
-// new file's length is known before the first byte is written, and a refused call writes nothing.
+// The blocks are gone through twice behind the check of contents and run indices. First each is laid down and measured,
+// held to the range that its entry says, which is the last of the reader's tests, searched for a number that would
+// become one with another, and renumbered; and of it is kept what it is laid down by, and how many of its numbers
+// change. Then, where there is room, each is laid down again, renumbered where something changes, and written by what
+// was kept. So the new file's length is known before the first byte is written, and a refused call writes nothing. Where
+// the lists or a row are refused, the whole file is checked once more, since a false range stands before them.
 //
-// A number is looked up by halving. In a block whose smallest and largest number have no old number between them none is
-// replaced, and in one that has no new number between them none is taken; so where neither is the case nothing is
-// looked up, and the block is measured once.
+// A number is looked up by halving. A block with no old number between its smallest and its largest is not replaced, and
+// one with no new number between them has none that is taken; where both hold, nothing is looked up. A block in which
+// nothing changes is measured once.
 mod pairs;
 
 use candidates::entry_with;
@@ -133,7 +135,8 @@ impl Renumbered {
 }
 
 // What is found of a block, or of the blocks of a file: whether it passes, which is that no range is false and no number
-// taken; the lowest place or row that is taken; the bytes of what is to be written; and how many numbers change.
+// taken; the lowest place or row that is taken, or the end of the block where none is; the bytes of what is to be
+// written; and how many numbers change.
 struct Found {
     passes: bool,
     taken: usize,
@@ -316,7 +319,7 @@ fn measure_one(
     }
 }
 
-// Whether entry i says this range; in edition 1 it says none.
+// Whether entry i says this range. In edition 1 it says none, and the answer is yes.
 fn is_told(file: &[u8], i: usize, range: Range) -> bool
     requires { ⌜ fileAnswer (runsTests (now file)) ≡ Done ⌝ }
     requires { ⌜ i < countIn (now file) ⌝ }

@@ -1,5 +1,5 @@
-// The cases of the call that renumbers a file: how the buffers are read, the call made, and what it left compared. The
-// file and the output have bytes, and the lists are one behind the other.
+// The cases of the call that renumbers a file (R132): how the buffers are read, the call made, and what it left
+// compared. The file and the output have bytes, and the lists are one behind the other.
 use crate::file_calls::renumber;
 use crate::file_cases::judge_write;
 use crate::t8;

@@ -10,7 +10,7 @@ use Rattle.renumber.specs.declared.RenumberAnswer.the-variants.{File, Lengths, 
 use Rattle.renumber.specs.declared.Renumbered.{Renumbered}
 use Rattle.renumber.specs.declared.Renumbered.the-variants as Renumbered
 
--- This is the file's own answer; where the lists are refused there is none, and that it is done stands for it.
+-- This is the file's own answer; where the lists or a row are refused there is none, and that it is done stands for it.
 abbrev pub ownAnswer : RenumberAnswer → FileAnswer
 ownAnswer (File a) = a
 ownAnswer Lengths = Done

@@ -2,11 +2,11 @@
 -- Assumes nothing.
 use mathlib.Core.Bool.{Bool, false, not}
 use mathlib.Core.Path.{_≡_, sym, subst}
-use Prim.Native.Nat.{_≤_, _^_}
+use Prim.Native.Nat.{ℕ, _<_, _^_}
 use native.Mathlib.Omega.{arith}
 use lib.Dec.{T}
-use lib.IntN.{pos, natAbs}
-use lib.Signed.{ltZ, ltZ-no, yes-nonNeg, natAbs-le}
+use lib.IntN.{ℤ, pos, negsuc, natAbs}
+use lib.Signed.{ltZ, ltZ-no, yes-nonNeg, nonNeg, mag}
 use mir.Facts.{toZ-ofZ}
 use mir.Syntax.{w64}
 use mir.Val.{toZ, ofZ}
@@ -17,15 +17,25 @@ use Rattle.console.proofs.read.not_below_zero.Tie as tie
 returns : tie.Need-returns
 returns c = search needs
 
--- what is read back is at most 2^63
-small : (c : tie.Else1) → natAbs (toZ w64 (ofZ w64 (c .before .args .x))) ≤ 2 ^ 63
-small c = rw (toZ-ofZ (c .before .fits .x)) (natAbs-le (c .before .args .x) (c .before .fits .x .sfits))
+-- a number that is not below 0 is as far from 0 as it is great
+not-below : (z : ℤ) {h : ℕ} → T (nonNeg z) → mag z < h → natAbs z < h
+not-below (pos n) t b = b
+not-below (negsuc n) t b = absurd t
 
-cast-result : tie.Need-cast-result
-cast-result c =
+-- what is read back is not below 0, and so it is below 2^63
+read-back : (c : tie.Else1) → T (nonNeg (toZ w64 (ofZ w64 (c .before .args .x))))
+read-back c =
     let z = toZ w64 (ofZ w64 (c .before .args .x)) in
     let e : ltZ z (pos 0) ≡ false = c .if1 .left in
-    (yes-nonNeg {z = z} (ltZ-no {a = z} {b = pos 0} (subst (λ b. T (not b)) (sym e) tt)), record { fits = omega (arith, small c) })
+    yes-nonNeg {z = z} (ltZ-no {a = z} {b = pos 0} (subst (λ b. T (not b)) (sym e) tt))
+
+small : (c : tie.Else1) → natAbs (toZ w64 (ofZ w64 (c .before .args .x))) < 2 ^ 63
+small c =
+    let same = toZ-ofZ (c .before .fits .x) in
+    subst (λ z. natAbs z < 2 ^ 63) (sym same) (not-below (c .before .args .x) (subst (λ z. T (nonNeg z)) same (read-back c)) (c .before .fits .x .sfits))
+
+cast-result : tie.Need-cast-result
+cast-result c = (read-back c, record { fits = omega (arith, small c) })
 
 returns-2 : tie.Need-returns-2
 returns-2 c = small c
