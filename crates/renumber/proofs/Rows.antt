@@ -121,7 +121,7 @@ module _ (old new l : List ℕ) (runs : fileAnswer (runsTests l) ≡ Done) (byte
       ∙ ap (λ n. length (failingFrom 0 n (λ k. isKept old new (getD (blockIn l i) k 0)))) (sym old-long))
 
   module _ (before : (p : ℕ) → p < i * 1024 → isFree old new (rowAt l p) ≡ true) where
-    -- No row before the first place of the block that is taken is.
+    -- Up to the lowest taken place of the block no row is taken.
     free-before : (m : ℕ) → m ≤ 1024 → m ≤ takenIn old new (blockIn l i) → (p : ℕ) → p < i * 1024 + m → isFree old new (rowAt l p) ≡ true
     unfolding takenIn
     free-before m few none p b =

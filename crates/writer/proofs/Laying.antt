@@ -159,7 +159,7 @@ module _ (values : List ℕ) where
       (omega (arith, length-head n, length-file, length-append (entriesFor values n) (bodiesFor values n), length-entries n))
       ∙ ap (λ y. over 0 y old) (sym (append-assoc (headBytes n) (entriesFor values n) (bodiesFor values n)))
 
-  -- A part of 1,024 numbers is a block,
+  -- A part of 1,024 numbers is a block.
   pub block-lent : (i : ℕ) → take (i * 1024 + 1024 - i * 1024) (drop (i * 1024) values) ≡ blockAt values i
   unfolding cut
   block-lent i = ap (λ k. take k (drop (i * 1024) values)) part
@@ -167,7 +167,7 @@ module _ (values : List ℕ) where
       part : i * 1024 + 1024 - i * 1024 ≡ 1024
       part = omega arith
 
--- A block is laid down through the tail of the output, and its entry and its range in their own place.
+-- A block is laid down through the tail of the output.
 module _ (block : List ℕ) (long : length block ≡ 1024) (at : ℕ) (old : List ℕ) (room : at + chosen block .entry .length ≤ length old) where
   pub one-laid : (laidOf block (midOf at (length old - at) old) ≡ As (chosen block .entry) (trueRange block))
       × (putMid at (length old - at) old (layLeaves block (midOf at (length old - at) old)) ≡ over at (bodyFor block) old)
