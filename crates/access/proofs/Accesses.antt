@@ -5,12 +5,11 @@ use mathlib.Core.Path.{_≡_, refl, sym, ap, ap₂, _∙_}
 use mathlib.Core.List.{List}
 use Prim.Native.Nat.{ℕ, _*_, _≤_, _<_}
 use lib.ListN.{length, getD}
-use Rattle.lists.specs.Pick.{pick}
 use Rattle.lists.specs.Search.{firstBeyond}
 use Rattle.lists.proofs.Tabs.{getD-tab}
 use Rattle.places.specs.declared.Answer.{Answer}
-use Rattle.places.specs.declared.Answer.the-variants.{Done, Width, Block, Packed, Base, Lists, Index, Dictionary}
-use Rattle.places.specs.Answers.{isDone, left}
+use Rattle.places.specs.declared.Answer.the-variants.{Done, Index}
+use Rattle.places.specs.Answers.{left}
 use Rattle.places.specs.Sizes.{lanes}
 use Rattle.places.specs.Takes.{answerFor}
 use Rattle.places.proofs.Answers.{says-answer, says-number}
@@ -19,7 +18,7 @@ use Rattle.packing.specs.Packed.{unpackOf, valueAt}
 use Rattle.packing.proofs.Answers.{good-block}
 use Rattle.packing.proofs.Rounds.{unpack-at}
 use Rattle.access.specs.declared.Listed.the-variants.{Words, Refused}
-use Rattle.access.specs.Calls.{single, singleTakes, singleOf, listTakes, listOf, listed, listGives, answerOf, wordsOf, listLeaves}
+use Rattle.access.specs.Calls.{single, singleTakes, singleOf, listTakes, listOf, listGives, answerOf, wordsOf, listLeaves}
 use Rattle.access.specs.Counts.{countAt, noCount, countsOf, listWords}
 use Rattle.access.proofs.Answers.{single-good, index-in, list-good, list-bad-index, indices-good}
 
@@ -58,10 +57,6 @@ module _ {S : Type 0} (value : ℕ → ℕ → S) (refused : Answer → S) (t w 
   single-counts count ev er =
       says-number given refused count noCount er (answerFor (singleTakes t w packed index))
       ∙ ap (λ n. left (answerFor (singleTakes t w packed index)) n noCount) (ev _ _)
-
-  pub single-value : answerFor (singleTakes t w packed index) ≡ Done → singleOf value refused t w packed index ≡ value (valueAt t w packed index) (countAt t w index)
-  unfolding singleOf
-  single-value e = ap (λ a. single value refused a (valueAt t w packed index) (countAt t w index)) e
 
 module _ {S : Type 0} (value : ℕ → ℕ → S) (refused : Answer → S) (t w : ℕ) (packed : List ℕ) (h : w ≤ t) (e : length packed ≡ lanes t * w) where
   -- Single access gives the value that unpack leaves at that place, and its count.

@@ -1,5 +1,5 @@
--- What the two bit transposes promise (R63, R64): where each bit goes, that this fixes the block, that each undoes the
--- other, and that at size 64 the bits move as values do under the value transpose. And the 8 by 8 step (R65).
+-- What the two bit transposes promise (R63, R64): where each bit goes, that this fixes the block, and that each undoes
+-- the other. And the 8 by 8 step (R65).
 -- Assumes nothing.
 use mathlib.Core.Path.{_≡_, refl, sym, ap, ap₂, _∙_, subst}
 use mathlib.Core.List.{List}
@@ -7,15 +7,11 @@ use Prim.Native.Nat.{ℕ, _+_, _*_, _/_, _%_, _^_, _<_}
 use native.Mathlib.Nat.{mul-comm, div-add-mod', div-lt-iff-lt-mul, mod-lt}
 use native.Mathlib.Omega.{arith}
 use lib.Arith.{digits-lt, digits-div, digits-mod}
-use Rattle.lists.specs.Tab.{tab}
 use Rattle.lists.specs.Numbers.{digit}
-use Rattle.lists.proofs.Every.{same}
-use Rattle.lists.proofs.Tabs.{getD-tab, tab-ext}
 use Rattle.lists.proofs.Digits.{number-lt}
-use Rattle.places.specs.Places.{order, place, lane, row, source, target}
+use Rattle.places.specs.Places.{place, lane, row}
 use Rattle.places.specs.Sizes.{t64, Size, lanes}
-use Rattle.places.specs.Transposes.{transposeOf, untransposeOf}
-use Rattle.places.proofs.Places.{size64, size-some, size-lanes, place-row-lane, lane-lt, row-lt, lane-place, row-place, place-lt, source-lt, target-lt}
+use Rattle.places.proofs.Places.{size64, size-some, size-lanes, place-row-lane, lane-lt, row-lt, lane-place, row-place, place-lt}
 use Rattle.bits.specs.Bits.{BitBlock, bit, goesTo, comesFrom, transposeBitsOf, untransposeBitsOf, bitOf}
 use Rattle.bits.specs.InnerSteps.{turnOf, byteOf}
 use Rattle.bits.proofs.Blocks.{block-bit-lt, bit-block, block-block, is-block}
@@ -116,31 +112,6 @@ unfolding transposeBitsOf
 transpose-untranspose b whole =
     sym (is-block b _ whole
     (λ q h. sym (untranspose-bit b (comesFrom t64 q) (comes-lt size64 q h) ∙ ap (bit b) (goes-comes size64 q h))))
-
--- At size 64 a bit comes from the source of its place, as a value does under the value transpose.
-pub comes-source : (q : ℕ) → q < 1024 → comesFrom t64 q ≡ source q
-unfolding order lane row source comesFrom
-comes-source = same 1024 (comesFrom t64) source tt
-
-pub goes-target : (p : ℕ) → p < 1024 → goesTo t64 p ≡ target p
-unfolding order place target goesTo
-goes-target = same 1024 (goesTo t64) target tt
-
-pub transpose-source : (b : List ℕ) (q : ℕ) → q < 1024 → bit (transposeBitsOf t64 b) q ≡ bit b (source q)
-transpose-source b q h = transpose-bit t64 b q h ∙ ap (bit b) (comes-source q h)
-
--- So the bits of the result, as a list of 1,024 values, are the value transpose of the bits that went in; and the same
--- of the inverses.
-pub transpose-values : (b : List ℕ) → tab 1024 (bit (transposeBitsOf t64 b)) ≡ transposeOf (tab 1024 (bit b))
-unfolding transposeOf
-transpose-values b =
-    tab-ext 1024 _ _ 0 (λ q h. transpose-source b q h ∙ sym (getD-tab 1024 (bit b) (source q) 0 (source-lt q h)))
-
-pub untranspose-values : (b : List ℕ) → tab 1024 (bit (untransposeBitsOf b)) ≡ untransposeOf (tab 1024 (bit b))
-unfolding untransposeOf
-untranspose-values b =
-    tab-ext 1024 _ _ 0
-    (λ p h. untranspose-bit b p h ∙ ap (bit b) (goes-target p h) ∙ sym (getD-tab 1024 (bit b) (target p) 0 (target-lt p h)))
 
 -- The 8 by 8 step, for every number: bit j of byte i moves to bit i of byte j.
 byte-bits : (x i j : ℕ) → j < 8 → bitOf (byteOf x i) j ≡ bitOf x (i * 8 + j)

@@ -3,7 +3,7 @@
 -- Assumes nothing.
 use mathlib.Core.Bool.{true}
 use mathlib.Core.List.{List}
-use mathlib.Core.Path.{_≡_, ap, ap₂, _∙_}
+use mathlib.Core.Path.{_≡_, ap}
 use Prim.Native.Nat.{ℕ, suc, _+_, _≤_, _<_}
 use native.Mathlib.Numerals.{add-one}
 use native.Mathlib.Omega.{arith}
@@ -25,11 +25,6 @@ module _ (l : List ℕ) (done : fileAnswer (contentsTests l (length l)) ≡ Done
 
   pub edition-read : editionOr l ≡ edition l
   edition-read = edition-there l (omega (arith, whole .head))
-
-  -- the first body begins behind the contents
-  pub length-read : contentsSize (editionOr l) (countOr l) ≡ bodyStart l 0
-  unfolding bodyStart bodiesSize
-  length-read = ap₂ contentsSize edition-read count-read ∙ omega arith
 
   module _ (i : ℕ) (h : i < count l) where
     pub entry-read : entryOr l i ≡ entryOf l i

@@ -1,7 +1,7 @@
 -- The laws behind the calls on one block: what is measured, and what is answered and left by the tests.
 -- Assumes nothing.
 use mathlib.Core.Bool.{Bool, true, false}
-use mathlib.Core.List.{List, [], _∷_, _++_}
+use mathlib.Core.List.{List, [], _∷_}
 use mathlib.Core.Path.{_≡_, refl, sym, ap, ap₂, _∙_}
 use Prim.Native.Nat.{ℕ, _+_, _-_, _*_, _^_, _≤_, _<_}
 use native.Mathlib.Omega.{arith}
@@ -28,11 +28,11 @@ use Rattle.contents.specs.declared.FileAnswer.the-variants.{Done, Block, Room}
 use Rattle.contents.specs.declared.Range.{Range}
 use Rattle.contents.specs.Answers.{fileAnswer, numberOf, isDone, left}
 use Rattle.contents.specs.Contents.{noEntry, anyRange}
-use Rattle.contents.proofs.Answers.{passed, stopped, none-left, says-answer}
+use Rattle.contents.proofs.Answers.{passed, stopped, none-left}
 use Rattle.candidates.specs.declared.Laid.the-variants.{As, Refused}
 use Rattle.candidates.specs.declared.Measured.{Measured}
 use Rattle.candidates.specs.declared.Measures.{Measures}
-use Rattle.candidates.specs.Calls.{entryFor, layTests, laidOf, layLeaves, answerOf, measuredOf, entryWith, isReady, byTests, plainLeaves, frameLeaves, stepsLeaves, byLeaves}
+use Rattle.candidates.specs.Calls.{entryFor, layTests, laidOf, layLeaves, measuredOf, entryWith, isReady, byTests, plainLeaves, frameLeaves, stepsLeaves, byLeaves}
 use Rattle.candidates.specs.Candidates.{baseOf, differences, chosen, bodyFor}
 use Rattle.candidates.specs.Measures.{measuresOf, widthsBy, entryBy, shorterPart, plainBy, frameBy, stepsBy, wordsBy}
 use Rattle.bodies.specs.Ranges.{trueRange}
@@ -116,11 +116,6 @@ module _ (values output : List ℕ) where
     ap (λ x. pick (isDone x) (As (chosen values .entry) (trueRange values)) (Refused x)) e,
     ap (λ x. left x (over 0 (bodyFor values) output) output) e,
   )
-
-  -- What is given back says the answer.
-  pub lay-answers : answerOf (laidOf values output) ≡ fileAnswer (layTests values output)
-  unfolding laidOf
-  lay-answers = says-answer answerOf (As (chosen values .entry) (trueRange values)) Refused refl (λ a. refl) (fileAnswer (layTests values output))
 
   pub bad-values : (length values ≡ 1024 → ⊥) → (Refused Block ≡ laidOf values output) × (output ≡ layLeaves values output)
   bad-values bad =

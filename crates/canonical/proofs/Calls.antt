@@ -10,7 +10,7 @@ use native.Mathlib.Omega.{arith}
 use borrow.Author.Tests.{eq-eqb, ne-eqb, eqb-true, eqb-false}
 use lib.Dec.{eqb}
 use Rattle.lists.specs.Pick.{pick}
-use Rattle.lists.proofs.Search.{first-le, first-only}
+use Rattle.lists.proofs.Search.{first-only}
 use Rattle.contents.specs.declared.FileAnswer.the-variants.{Done, Edition, Range, Foreign}
 use Rattle.contents.specs.Answers.{fileAnswer, numberOf}
 use Rattle.contents.specs.Contents.{edition, count, editionOr}
@@ -21,10 +21,6 @@ use Rattle.files.proofs.Ranges.{contents-right, file-ranges, ranges-done, other
 use Rattle.canonical.specs.Canonical.{isOurs, foreign, canonicalTests}
 
 module _ (l : List ℕ) where
-  pub foreign-le : foreign l ≤ count l
-  unfolding foreign
-  foreign-le = first-le (count l) (isOurs l)
-
   -- Where the reader refuses the file, that is its answer; else the edition decides, and then what the walk finds.
   pub not-read : (fileAnswer (fileTests l) ≡ Done → ⊥) → fileAnswer (canonicalTests l) ≡ fileAnswer (fileTests l)
   not-read refused = in-front-refused (fileTests l) _ refused

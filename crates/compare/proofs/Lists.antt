@@ -19,20 +19,20 @@ use Rattle.compare.specs.Changes.{isSameAt, differing, changeAt, changes
 use Rattle.compare.specs.Listed.{InBoth, noChange, Lists}
 
 -- What a rule makes of the entry at a place that is there.
-getD-map-in : {A B : Type 0} (f : A → B) (list : List A) (k : ℕ) (d : A) (e : B) → k < length list → getD (map f list) k e ≡ f (getD list k d)
+pub getD-map-in : {A B : Type 0} (f : A → B) (list : List A) (k : ℕ) (d : A) (e : B) → k < length list → getD (map f list) k e ≡ f (getD list k d)
 getD-map-in f [] k d e h = absurd (omega arith)
 getD-map-in f (x ∷ list) zero d e h = refl
 getD-map-in f (x ∷ list) (suc k) d e h = getD-map-in f list k d e (le-of-suc-le-suc h)
 
-module _ (l m : List ℕ) where
-  -- Row 1,024 · i + p is place p of block i.
-  row-of : (x : List ℕ) (i p : ℕ) → p < 1024 → rowAt x (i * 1024 + p) ≡ getD (blockIn x i) p 0
-  unfolding rowAt
-  row-of x i p h =
-      let b : (i * 1024 + p) / 1024 ≡ i = omega arith in
-      let q : (i * 1024 + p) % 1024 ≡ p = omega arith in
-      ap₂ (λ b q. getD (blockIn x b) q 0) b q
+-- Row 1,024 · i + p is place p of block i.
+pub row-of : (l : List ℕ) (i p : ℕ) → p < 1024 → rowAt l (i * 1024 + p) ≡ getD (blockIn l i) p 0
+unfolding rowAt
+row-of l i p h =
+    let b : (i * 1024 + p) / 1024 ≡ i = omega arith in
+    let q : (i * 1024 + p) % 1024 ≡ p = omega arith in
+    ap₂ (λ b q. getD (blockIn l b) q 0) b q
 
+module _ (l m : List ℕ) where
   -- The changes of block i are those of its rows.
   block-rows : (i : ℕ) → map (changeOf l m) (failingFrom (i * 1024) 1024 (isSameRow l m)) ≡ changesIn i (blockIn l i) (blockIn m i)
   unfolding changesIn differing

@@ -59,9 +59,6 @@ module _ {l : List ℕ} {size : ℕ} (w : Whole l size) (i : ℕ) (h : i < count
   pub whole-taken : isTakenIn (edition l) (entryOf l i) ≡ true
   whole-taken = both-true (isTakenIn (edition l) (entryOf l i)) (isOrdered (rangeOf l i)) (laid-taken .1) .0
 
-  pub whole-ordered : isOrdered (rangeOf l i) ≡ true
-  whole-ordered = both-true (isTakenIn (edition l) (entryOf l i)) (isOrdered (rangeOf l i)) (laid-taken .1) .1
-
 module _ (l : List ℕ) (size : ℕ) where
   -- Where every entry is right, none is the lowest bad one, and the other way round.
   none-bad : ((i : ℕ) → i < count l → isRight l i ≡ true) → badEntry l ≡ count l

@@ -226,11 +226,3 @@ module _ (e : Entry) (r : Range) (at : ℕ) (l : List ℕ) where
   pub entry-left : length l < at + 32 → entryLeaves e r at l ≡ l
   unfolding entryLeaves
   entry-left h = ap (λ b. pick b (over at (entryBytes e r) l) l) (lt-leb (at + 32) (length l) h)
-
-  pub entry-length : length (entryLeaves e r at l) ≡ length l
-  unfolding entryLeaves
-  entry-length =
-      elim (decLe (at + 32) (length l)) [
-        | yes h ↦ ap length (entry-fits h) ∙ length-over at (entryBytes e r) l (omega (arith, length-entry e r))
-        | no h ↦ ap length (entry-left (omega arith))
-      ]

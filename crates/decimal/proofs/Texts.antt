@@ -18,7 +18,7 @@ use Rattle.lists.proofs.Search.{first-beyond-le, first-beyond-before}
 use Rattle.lists.proofs.Overs.{set-over, over-append, over-apart}
 use Rattle.decimal.specs.declared.Parsed.the-variants.{Number, Empty, Other, Large}
 use Rattle.decimal.specs.Decimal.{digitOf, digitsOf, valueFrom, valueOf, digitsIn, textOf, Bare}
-use Rattle.decimal.specs.Calls.{digitsOr, parsedOf, laidOf}
+use Rattle.decimal.specs.Calls.{digitsOr, parsedOf}
 use Rattle.decimal.proofs.Digits.{digits-one, digits-more, digits-below, digits-few, digits-value, value-digits}
 
 -- ---- the text of a number
@@ -208,11 +208,3 @@ text-parse text n e bare = go (eqb (length text) 0) refl e
         let read = read-number (map digitOf text) n e in
         let some : 1 ≤ length text = positive (length text) (eqb-false (length text) 0 f) in
         ap (map byte) (bare-digits text n some bare read) ∙ same-bytes text (read .below)
-
--- No more is laid than there is room for.
-pub laid-within : (n : ℕ) (out : List ℕ) → laidOf n out ≤ length out
-laid-within n out = go (leb (length (textOf n)) (length out)) refl
-  where
-    go : (t : Bool) → leb (length (textOf n)) (length out) ≡ t → pick t (length (textOf n)) 0 ≤ length out
-    go true e = leb-true (length (textOf n)) (length out) e
-    go false e = omega arith

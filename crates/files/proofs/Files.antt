@@ -3,17 +3,17 @@
 -- Assumes nothing.
 use mathlib.Core.Bool.{Bool, true, false}
 use mathlib.Core.List.{List, [], _∷_}
-use mathlib.Core.Path.{_≡_, refl, sym, ap, ap₂, _∙_}
-use Prim.Native.Nat.{ℕ, _+_, _-_, _<_}
+use mathlib.Core.Path.{_≡_, refl, sym, ap, _∙_}
+use Prim.Native.Nat.{ℕ, _<_}
 use native.Mathlib.Omega.{arith}
-use lib.ListN.{length, take, drop, length-take, length-drop}
+use lib.ListN.{length, length-take, length-drop}
 use lib.Dec.{eqb, ltb}
 use borrow.Author.Tests.{le-leb, eq-eqb, ltb-true}
 use Rattle.lists.specs.Pick.{pick}
 use Rattle.lists.proofs.Search.{first-only}
 use Rattle.contents.specs.declared.FileAnswer.the-variants.{Done, Runs}
 use Rattle.contents.specs.Answers.{fileAnswer, isDone, left}
-use Rattle.contents.specs.Contents.{edition, count, entryOf, bodyStart, contentsTests}
+use Rattle.contents.specs.Contents.{edition, count, entryOf, contentsTests}
 use Rattle.contents.proofs.Accepted.{whole-taken}
 use Rattle.contents.proofs.Answers.{passed, stopped, none-left}
 use Rattle.bodies.specs.Bodies.{blockOf, hasGoodRuns, bodyTests, blockTests, blockLeaves}
@@ -75,13 +75,6 @@ module _ (l : List ℕ) (done : fileAnswer (contentsTests l (length l)) ≡ Done
         ∙ left-picked (goodIn l i) 0 (blockOf (entryOf l i) (bodyOf l i)) output
 
 module _ (l : List ℕ) where
-  -- The part of the file from where body i begins, as long as its entry says, is body i.
-  pub body-is : (i at bytes : ℕ) → at ≡ bodyStart l i → bytes ≡ entryOf l i .length → take (at + bytes - at) (drop at l) ≡ bodyOf l i
-  unfolding bodyOf
-  body-is i at bytes e f =
-      let m : at + bytes - at ≡ bytes = omega arith in
-      ap₂ (λ n s. take n (drop s l)) (m ∙ f) e
-
   -- Where every block is good, the test of the run indices is passed.
   pub no-bad-runs : ((k : ℕ) → k < count l → goodIn l k ≡ true) → fileAnswer ((eqb (badRuns l) (count l), Runs (badRuns l)) ∷ []) ≡ Done
   unfolding badRuns

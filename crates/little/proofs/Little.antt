@@ -1,15 +1,14 @@
--- The laws of little-endian numbers: a number is made of its two halves, and knows nothing of the bytes before and
--- after its own.
+-- The laws of little-endian numbers: a number is made of its two halves, and knows nothing of the bytes before its own.
 -- Assumes nothing.
-use mathlib.Core.Bool.{Bool, true, false}
-use mathlib.Core.Path.{_≡_, refl, sym, ap, ap₂, _∙_}
+use mathlib.Core.Bool.{true, false}
+use mathlib.Core.Path.{_≡_, refl, sym, ap, _∙_}
 use mathlib.Core.List.{List, [], _∷_, _++_}
 use Prim.Native.Nat.{ℕ, zero, suc, _+_, _*_, _≤_, _<_}
 use native.Mathlib.Nat.{zero-add, suc-add}
 use native.Mathlib.Decide.{decLe}
 use native.Mathlib.Omega.{arith}
 use lib.Dec.{leb}
-use lib.ListN.{length, getD, List·getD-append}
+use lib.ListN.{length, getD}
 use borrow.Author.Tests.{le-leb, lt-leb}
 use Rattle.lists.specs.Pick.{pick}
 use Rattle.lists.proofs.Tabs.{length-tab}
@@ -51,13 +50,6 @@ pub little-past : (a b : List ℕ) (at k : ℕ) → little (a ++ b) (length a + 
 little-past [] b at k = ap (λ n. little b n k) (zero-add at)
 little-past (x ∷ a) b at k =
     ap (λ n. little (x ∷ (a ++ b)) n k) (suc-add (length a) at) ∙ little-cons x (a ++ b) (length a + at) k ∙ little-past a b at k
-
--- within a front, whatever follows it
-pub little-front : (a b : List ℕ) (at k : ℕ) → at + k ≤ length a → little (a ++ b) at k ≡ little a at k
-unfolding little
-little-front a b at zero h = refl
-little-front a b at (suc k) h =
-    ap₂ (λ m n. m + n * 256) (List·getD-append a b 0 at (omega arith)) (little-front a b (suc at) k (omega arith))
 
 -- where the bytes are all there, and where they are not
 module _ (l : List ℕ) (at k : ℕ) where

@@ -4,7 +4,7 @@
 -- Assumes nothing.
 use mathlib.Core.Path.{_≡_, sym, ap, _∙_}
 use Prim.Native.Nat.{ℕ, _+_, _-_, _*_, _/_, _%_, _^_, _≤_, _<_}
-use native.Mathlib.Nat.{add-zero, add-comm, add-assoc, one-mul, mul-suc, suc-mul, mul-assoc, mul-right-comm, mul-comm, add-mul, mod-lt, mod-eq-of-lt, mul-add-mod-self-right, mul-add-div-right, add-mul-div-right, le-of-lt, lt-of-lt-of-le, zero-div, div-eq-of-lt, div-add-mod', sub-add-cancel, mul-div-cancel-left, lt-of-mul-lt-mul-right, mul-le-mul-right, mul-lt-mul-of-pos-right}
+use native.Mathlib.Nat.{add-zero, add-comm, add-assoc, one-mul, mul-suc, suc-mul, mul-assoc, mul-right-comm, mul-comm, add-mul, mod-eq-of-lt, mul-add-mod-self-right, mul-add-div-right, add-mul-div-right, le-of-lt, lt-of-lt-of-le, zero-div, sub-add-cancel, mul-div-cancel-left, lt-of-mul-lt-mul-right, mul-le-mul-right, mul-lt-mul-of-pos-right}
 use native.Mathlib.Decide.{decLe}
 use native.Mathlib.Numerals.{add-one}
 use native.Mathlib.Omega.{arith}
@@ -103,12 +103,6 @@ module _ (t w r k s : ℕ) (e : r * w ≡ k * t + s) (hs : s < t) (wide : w ≤ 
   -- after what row r has put there.
   pub over-bit : (r + 1) * w % t ≡ s + w - t
   over-bit = at-bit t w (r + 1) (k + 1) (s + w - t) (over-at t w r k s e hs l) (omega arith)
-
--- Every row begins in one of the w words of its lane.
-pub word-in : (t w r : ℕ) → r < t → 0 < w → r * w / t < w
-word-in t w r hr pos =
-    let some : 0 < t = omega arith in
-    word-lt t w r (r * w / t) (r * w % t) (sym (div-add-mod' (r * w) t)) (mod-lt (r * w) some) hr pos
 
 -- The t rows of a lane fill its w words.
 pub word-all : (t w : ℕ) → 0 < t → t * w / t ≡ w
@@ -241,9 +235,3 @@ module _ (t w r k s : ℕ) (e : r * w ≡ k * t + s) (hs : s < t) (g : ℕ → �
       ∙ ap (λ n. (g r * 2 ^ s + h) / 2 ^ n) (omega arith)
       ∙ sym (shr-shr (g r * 2 ^ s + h) s (t - s))
       ∙ ap (λ n. n / 2 ^ (t - s)) (high (g r) s (held-lt t w r k s e hs g small (le-of-lt hr)))
-
-  -- Where the value fills the word exactly, that is nothing.
-  pub write-none : w ≤ t → s + w ≡ t → held t w g (r + 1) ≡ 0
-  write-none wide l =
-      let width : t - s ≡ w = omega arith in
-      write-rest wide (omega arith) ∙ div-eq-of-lt (rw width (small r hr))

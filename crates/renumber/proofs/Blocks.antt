@@ -2,11 +2,11 @@
 -- block whose range meets no number of the list.
 -- Assumes nothing.
 use mathlib.Core.Bool.{true, false}
-use mathlib.Core.List.{List, [], _∷_, map}
+use mathlib.Core.List.{List, [], _∷_}
 use mathlib.Core.Path.{_≡_, refl, sym, ap, _∙_}
-use Prim.Native.Nat.{ℕ, zero, suc, _+_, _≤_, _<_}
+use Prim.Native.Nat.{ℕ, _+_, _≤_, _<_}
 use native.Mathlib.Decide.{ℕ-discrete}
-use native.Mathlib.Nat.{le-of-suc-le-suc, zero-add}
+use native.Mathlib.Nat.{zero-add}
 use native.Mathlib.Omega.{arith}
 use lib.ListN.{length, getD, set, length-map, length-append}
 use lib.Seq.{ext-getD}
@@ -20,16 +20,11 @@ use Rattle.lists.proofs.Highs.{highest-bound}
 use Rattle.lists.proofs.Lows.{lowest-bound}
 use Rattle.lists.proofs.Search.{first-only, first-le}
 use Rattle.lists.proofs.Tabs.{Written, written-none, written-next, written-later, written-length, written-all, is-tab}
+use Rattle.compare.proofs.Lists.{getD-map-in}
 use Rattle.renumber.specs.InnerBlocks.{newBlock, takenIn, changedIn}
 use Rattle.renumber.specs.InnerPairs.{Paired, meetsIn, isKept}
 use Rattle.renumber.specs.Pairs.{placeIn, isIn, renumbered, isFree, along}
 use Rattle.renumber.proofs.Becoming.{stays, free-other, meets-not, new-along}
-
--- What a rule makes of the entry at a place that is there.
-pub getD-map : (f : ℕ → ℕ) (list : List ℕ) (k : ℕ) → k < length list → getD (map f list) k 0 ≡ f (getD list k 0)
-getD-map f [] k h = absurd (omega arith)
-getD-map f (x ∷ list) zero h = refl
-getD-map f (x ∷ list) (suc k) h = getD-map f list k (le-of-suc-le-suc h)
 
 module _ (old new block : List ℕ) where
   pub length-block : length (newBlock old new block) ≡ length block
@@ -38,7 +33,7 @@ module _ (old new block : List ℕ) where
 
   pub getD-block : (k : ℕ) → k < length block → getD (newBlock old new block) k 0 ≡ renumbered old new (getD block k 0)
   unfolding newBlock
-  getD-block k h = getD-map (renumbered old new) block k h
+  getD-block k h = getD-map-in (renumbered old new) block k 0 0 h
 
   pub block-tab : newBlock old new block ≡ tab (length block) (λ k. renumbered old new (getD block k 0))
   block-tab = is-tab (newBlock old new block) (length block) (λ k. renumbered old new (getD block k 0)) 0 length-block getD-block

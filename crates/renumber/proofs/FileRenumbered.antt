@@ -6,7 +6,7 @@
 use mathlib.Core.Bool.{Bool, true, false}
 use mathlib.Core.List.{List, [], map}
 use mathlib.Core.Logic.{_↔_, _≢_, inr}
-use mathlib.Core.Path.{_≡_, refl, sym, ap, ap₂, subst, _∙_}
+use mathlib.Core.Path.{_≡_, refl, sym, ap, subst, _∙_}
 use Prim.Native.Nat.{ℕ, _^_, _≤_, _<_}
 use native.Mathlib.Decide.{decLt, decLe, ℕ-discrete}
 use native.Mathlib.Omega.{arith}
@@ -18,14 +18,12 @@ use Rattle.lists.specs.Members.{Stands, Rising}
 use Rattle.lists.specs.Numbers.{Elements}
 use Rattle.lists.specs.Passing.{failingFrom}
 use Rattle.lists.specs.Pick.{pick}
-use Rattle.lists.specs.Tab.{over}
 use Rattle.lists.proofs.Digits.{elements-of}
 use Rattle.lists.proofs.Failing.{failing-ext, failing-none, map-failing}
 use Rattle.lists.proofs.Overs.{over-front, over-rest}
 use Rattle.lists.proofs.Tabs.{getD-tab}
 use Rattle.places.specs.Sizes.{t64, lanes}
 use Rattle.contents.specs.declared.Entry.{Entry}
-use Rattle.contents.specs.declared.FileAnswer.{FileAnswer}
 use Rattle.contents.specs.declared.FileAnswer.the-variants.{Done}
 use Rattle.contents.specs.Answers as Answers
 use Rattle.contents.specs.Answers.{fileAnswer}
@@ -42,6 +40,7 @@ use Rattle.writer.proofs.FileRows as Old
 use Rattle.writer.proofs.FileWritten.{block-least}
 use Rattle.writer.proofs.ReadBack.{edition-is, count-is, entry-read, file-accepted, rows-read}
 use Rattle.compare.specs.Changes.{rowsInBoth, isSameRow, changeOf, changesOf}
+use Rattle.compare.proofs.Lists.{getD-map-in}
 use Rattle.renumber.specs.declared.RenumberAnswer.{RenumberAnswer}
 use Rattle.renumber.specs.declared.RenumberAnswer.the-variants.{File}
 use Rattle.renumber.specs.declared.Renumbered.the-variants.{Length, Refused}
@@ -50,8 +49,7 @@ use Rattle.renumber.specs.InnerPairs.{Paired}
 use Rattle.renumber.specs.Pairs.{placeIn, renumbered, isFree}
 use Rattle.renumber.specs.Renumber.{numberOf, isDone, newRows, newFile, changedRows, takenAt, listAnswer, renumberAnswer, renumberedOf, renumberLeaves, answerOf, lengthOf, changedOf}
 use Rattle.renumber.proofs.Becoming.{becomes-new, stays}
-use Rattle.renumber.proofs.Calls.{refused, file-stops, lists-stop, row-stops, room-stops, nothing-stops, written, taken-le}
-use Rattle.renumber.proofs.Blocks.{getD-map}
+use Rattle.renumber.proofs.Calls.{refused, file-stops, lists-stop, row-stops, room-stops, written, taken-le}
 use Rattle.renumber.proofs.Exactly.{none-fails, free-tested}
 use Rattle.renumber.proofs.Lists.{number-done, lists-taken, lists-paired, lists-done}
 use Rattle.renumber.proofs.Places.{place-is, place-only}
@@ -256,7 +254,7 @@ pub empty-rows : (l : List ℕ) → newRows [] [] l ≡ rowsOf l
 unfolding newRows
 empty-rows l =
     ext-getD 0 (map (renumbered [] []) (rowsOf l)) (rowsOf l) (length-map (rowsOf l) (renumbered [] []))
-    (λ p h. getD-map (renumbered [] []) (rowsOf l) p (omega (arith, length-map (rowsOf l) (renumbered [] []))) ∙ empty-stays (getD (rowsOf l) p 0))
+    (λ p h. getD-map-in (renumbered [] []) (rowsOf l) p 0 0 (omega (arith, length-map (rowsOf l) (renumbered [] []))) ∙ empty-stays (getD (rowsOf l) p 0))
 
 -- Of a file and no pairs:
 module _ (l : List ℕ) where

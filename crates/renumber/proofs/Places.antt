@@ -3,7 +3,6 @@
 -- Assumes nothing.
 use mathlib.Core.Bool.{Bool, true, false}
 use mathlib.Core.List.{List}
-use mathlib.Core.Logic.{_↔_}
 use mathlib.Core.Path.{_≡_, refl, sym, ap, subst, _∙_}
 use Prim.Native.Nat.{ℕ, _≤_, _<_}
 use native.Mathlib.Decide.{decLt, ℕ-discrete}
@@ -14,7 +13,7 @@ use borrow.Author.Tests.{eq-eqb, ne-eqb, eqb-true, eqb-false, lt-ltb, le-ltb, lt
 use Rattle.lists.specs.Members.{Stands, Rising}
 use Rattle.lists.specs.Pick.{fails}
 use Rattle.lists.specs.Search.{firstBeyond}
-use Rattle.lists.proofs.Search.{first-le, first-before, first-at, first-only, first-beyond-before, first-beyond-at}
+use Rattle.lists.proofs.Search.{first-before, first-at, first-only, first-beyond-before, first-beyond-at}
 use Rattle.lists.proofs.Tests.{false-true}
 use Rattle.renumber.specs.Pairs.{placeIn, isIn}
 
@@ -29,10 +28,6 @@ fails-false false e = absurd (false-true (sym e))
 module _ (xs : List ℕ) (x : ℕ) where
   abbrev other : ℕ → Bool
   other i = fails (eqb (getD xs i 0) x)
-
-  pub place-le : placeIn xs x ≤ length xs
-  unfolding placeIn
-  place-le = first-le (length xs) other
 
   -- At its place the number stands,
   pub place-is : placeIn xs x < length xs → getD xs (placeIn xs x) 0 ≡ x
@@ -61,12 +56,6 @@ module _ (xs : List ℕ) (x : ℕ) where
         | yes h ↦ h
         | no h ↦ absurd (place-before (s .0) (omega (arith, s .1)) (s .2))
       ])
-
-  pub in-exactly : (isIn xs x ≡ true) ↔ Stands x xs
-  in-exactly = (in-stands, stands-in)
-
-  pub out-stands : isIn xs x ≡ false → Stands x xs → ⊥
-  out-stands e s = false-true (sym e ∙ stands-in s)
 
   pub stands-out : (Stands x xs → ⊥) → isIn xs x ≡ false
   stands-out none =

@@ -3,8 +3,8 @@
 -- Assumes nothing.
 use mathlib.Core.Bool.{Bool, true}
 use mathlib.Core.List.{List, map}
-use mathlib.Core.Path.{_≡_, sym, ap, ap₂, _∙_}
-use Prim.Native.Nat.{ℕ, _+_, _-_, _*_, _/_, _%_, _≤_, _<_}
+use mathlib.Core.Path.{_≡_, sym, ap, _∙_}
+use Prim.Native.Nat.{ℕ, _+_, _-_, _*_, _≤_, _<_}
 use native.Mathlib.Decide.{decLt}
 use native.Mathlib.Nat.{add-zero, zero-add}
 use native.Mathlib.Numerals.{add-one}
@@ -27,19 +27,12 @@ use Rattle.files.proofs.Rows.{rows-count, rows-block}
 use Rattle.writer.specs.Writer.{blockCount, blockAt, bodiesFor}
 use Rattle.writer.proofs.Laying.{bodies-longer, length-file}
 use Rattle.writer.proofs.FileRows as Old
+use Rattle.compare.proofs.Lists.{getD-map-in, row-of}
 use Rattle.renumber.specs.InnerBlocks.{newBlock, takenIn, changedIn}
 use Rattle.renumber.specs.InnerPairs.{isKept}
 use Rattle.renumber.specs.Pairs.{renumbered, isFree}
 use Rattle.renumber.specs.Renumber.{newRows, newFile, changedRows, takenAt}
-use Rattle.renumber.proofs.Blocks.{getD-map, length-block, block-tab}
-
--- Row 1,024 · i + k is place k of block i.
-pub row-of : (l : List ℕ) (i k : ℕ) → k < 1024 → rowAt l (i * 1024 + k) ≡ getD (blockIn l i) k 0
-unfolding rowAt
-row-of l i k h =
-    let b : (i * 1024 + k) / 1024 ≡ i = omega arith in
-    let q : (i * 1024 + k) % 1024 ≡ k = omega arith in
-    ap₂ (λ b q. getD (blockIn l b) q 0) b q
+use Rattle.renumber.proofs.Blocks.{length-block, block-tab}
 
 module _ (old new l : List ℕ) where
   pub length-rows : length (newRows old new l) ≡ length (rowsOf l)
@@ -48,7 +41,7 @@ module _ (old new l : List ℕ) where
 
   pub getD-rows : (p : ℕ) → p < length (rowsOf l) → getD (newRows old new l) p 0 ≡ renumbered old new (getD (rowsOf l) p 0)
   unfolding newRows
-  getD-rows p h = getD-map (renumbered old new) (rowsOf l) p h
+  getD-rows p h = getD-map-in (renumbered old new) (rowsOf l) p 0 0 h
 
   -- The rows are as many as those of the old file,
   pub rows-long : length (newRows old new l) ≡ count l * 1024
@@ -128,10 +121,10 @@ module _ (old new l : List ℕ) (runs : fileAnswer (runsTests l) ≡ Done) (byte
       ∙ ap (λ n. length (failingFrom 0 n (λ k. isKept old new (getD (blockIn l i) k 0)))) (sym old-long))
 
   module _ (before : (p : ℕ) → p < i * 1024 → isFree old new (rowAt l p) ≡ true) where
-    -- A block in which no place is taken: no row up to its end is.
-    pub free-next : 1024 ≤ takenIn old new (blockIn l i) → (p : ℕ) → p < (i + 1) * 1024 → isFree old new (rowAt l p) ≡ true
+    -- Up to the lowest taken place of the block no row is taken.
+    free-before : (m : ℕ) → m ≤ 1024 → m ≤ takenIn old new (blockIn l i) → (p : ℕ) → p < i * 1024 + m → isFree old new (rowAt l p) ≡ true
     unfolding takenIn
-    free-next none p m =
+    free-before m few none p b =
         elim (decLt p (i * 1024)) [
           | yes low ↦ before p low
           | no high ↦
@@ -141,21 +134,17 @@ module _ (old new l : List ℕ) (runs : fileAnswer (runsTests l) ≡ Done) (byte
               ∙ first-before (length (blockIn l i)) (λ k. isFree old new (getD (blockIn l i) k 0)) (p - i * 1024) (omega arith)
         ]
 
+    -- A block in which no place is taken: no row up to its end is.
+    pub free-next : 1024 ≤ takenIn old new (blockIn l i) → (p : ℕ) → p < (i + 1) * 1024 → isFree old new (rowAt l p) ≡ true
+    free-next none p b = free-before 1024 (omega arith) none p (omega arith)
+
     -- A block in which one is: it is the lowest row of the file.
     pub row-taken : (m : ℕ) → m ≡ takenIn old new (blockIn l i) → m < 1024 → i * 1024 + m ≡ takenAt old new l
     unfolding takenIn takenAt
     row-taken m found some =
         let long = old-long in
         first-only (rowCount l) (i * 1024 + m) (λ p. isFree old new (rowAt l p)) (omega arith)
-        (λ p b.
-        elim (decLt p (i * 1024)) [
-          | yes low ↦ before p low
-          | no high ↦
-              let at : p ≡ i * 1024 + (p - i * 1024) = omega arith in
-              ap (λ p. isFree old new (rowAt l p)) at
-              ∙ ap (isFree old new) (row-of l i (p - i * 1024) (omega arith))
-              ∙ first-before (length (blockIn l i)) (λ k. isFree old new (getD (blockIn l i) k 0)) (p - i * 1024) (omega arith)
-        ])
+        (free-before m (omega arith) (omega arith))
         (λ _.
         ap (isFree old new) (row-of l i m some)
         ∙ ap (λ k. isFree old new (getD (blockIn l i) k 0)) found

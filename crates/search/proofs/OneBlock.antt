@@ -4,18 +4,16 @@ use mathlib.Core.Bool.{true, false}
 use mathlib.Core.List.{List, [], _∷_}
 use mathlib.Core.Path.{_≡_, ap, _∙_}
 use Prim.Native.Nat.{ℕ, _*_, _≤_, _<_}
-use native.Mathlib.Omega.{arith}
 use lib.Dec.{leb}
 use lib.ListN.{length}
-use borrow.Author.Tests.{lt-ltb, le-ltb, le-leb, eq-eqb, ne-eqb}
+use borrow.Author.Tests.{lt-ltb, le-ltb, eq-eqb, ne-eqb}
 use Rattle.lists.specs.Tab.{over}
-use Rattle.lists.proofs.Passing.{passing-length}
 use Rattle.contents.specs.declared.FileAnswer.{FileAnswer}
 use Rattle.contents.specs.declared.FileAnswer.the-variants.{Done, Block, Beyond, Room}
 use Rattle.contents.specs.Answers.{fileAnswer, numberOf}
 use Rattle.contents.proofs.Answers.{passed, stopped, none-left}
 use Rattle.search.specs.declared.Found.the-variants.{Rows, Refused}
-use Rattle.search.specs.Steps.{inBlock, foundIn, rowsIn, listedTests, listedOf, listedLeaves}
+use Rattle.search.specs.Steps.{foundIn, rowsIn, listedTests, listedOf, listedLeaves}
 use Rattle.search.proofs.Answers.{given-refused, given-done}
 use Rattle.search.proofs.Blocks.{found-shift}
 
@@ -52,10 +50,3 @@ module _ (block : List ℕ) (i low high : ℕ) (rows : List ℕ) where
 
       pub place-there : leb (length (foundIn block 0 low high)) (length rows) ≡ true → fileAnswer (listedTests block i low high rows) ≡ Done
       place-there there = room-left ∙ passed _ _ there ∙ none-left
-
-      -- Room for 1,024 rows is enough for any block.
-      pub any-block : 1024 ≤ length rows → fileAnswer (listedTests block i low high rows) ≡ Done
-      any-block room =
-          place-there
-          (le-leb (length (foundIn block 0 low high)) (length rows)
-          (omega (arith, long, passing-length 0 (length block) (inBlock block 0 low high))))

@@ -5,13 +5,12 @@
 use mathlib.Core.Bool.{Bool, true, false}
 use mathlib.Core.List.{List, [], _∷_, _++_, append-nil}
 use mathlib.Core.Path.{_≡_, refl, sym, ap, ap₂, _∙_}
-use Prim.Native.Nat.{ℕ, zero, suc, _+_, _≤_, _<_}
+use Prim.Native.Nat.{ℕ, zero, suc, _≤_, _<_}
 use native.Mathlib.Decide.{ℕ-discrete}
 use native.Mathlib.Numerals.{add-one}
 use native.Mathlib.Omega.{arith}
 use lib.Dec.{eqb, leb}
 use lib.ListN.{length}
-use borrow.Author.Tests.{eq-eqb}
 use Rattle.lists.specs.Pick.{pick}
 use Rattle.lists.specs.Tab.{over}
 use Rattle.lists.specs.Passing.{passing}
@@ -21,11 +20,10 @@ use Rattle.contents.specs.declared.FileAnswer.{FileAnswer}
 use Rattle.contents.specs.declared.FileAnswer.the-variants.{Done, Range, Room, Runs}
 use Rattle.contents.specs.Answers.{fileAnswer, numberOf, isDone, left}
 use Rattle.contents.specs.Contents.{count, countOr, entryOr, contentsTests}
-use Rattle.contents.proofs.Answers.{passed, in-front-done, in-front-refused, left-refused, number-done}
+use Rattle.contents.proofs.Answers.{in-front-done, in-front-refused, left-refused, number-done}
 use Rattle.bodies.specs.Bodies.{blockOf}
-use Rattle.bodywise.specs.Steps.{bodyTests, heldTests, heldLeaves, rangeTests, stepOf, frontOf}
+use Rattle.bodywise.specs.Steps.{frontOf}
 use Rattle.bodywise.proofs.Fronts.{Front, front-right}
-use Rattle.bodywise.proofs.Steps.{step-body, step-range}
 use Rattle.files.specs.Chosen.{chosenAfter}
 use Rattle.files.specs.Files.{bodyOf, hasTrueRange}
 use Rattle.files.proofs.Files.{goodIn}
@@ -35,25 +33,6 @@ use Rattle.search.specs.Search.{opens, opened, listed, found, badRunsIn,
 use Rattle.search.specs.Steps.{opensBy, rowsIn, rowsAfter, rowsBy, answerBy, searchedBy, leftBy}
 use Rattle.search.proofs.Answers.{search-refused, contents-first, given-refused}
 use Rattle.search.proofs.Walks.{foundTo, front-opens, found-open, found-shut, found-all}
-
--- One opened body more: the answer is that of laying its block down, and behind it that of the range of the block that
--- was laid down.
-pub stepped : (front : List ℕ) (i : ℕ) (body block : List ℕ) → length block ≡ 1024 → stepOf Done front i body
-    ≡ left (fileAnswer (heldTests front i body block)) (fileAnswer (rangeTests front i (heldLeaves front i body block))) (fileAnswer (heldTests front i body block))
-unfolding heldLeaves
-stepped front i body block long =
-    elim (ℕ-discrete (numberOf (fileAnswer (bodyTests front i body))) 0) [
-      | yes z ↦ let done = number-done (fileAnswer (bodyTests front i body)) z in
-          step-range front i body Done refl done
-          ∙ sym (ap (λ a. left a (fileAnswer (rangeTests front i (left a (blockOf (entryOr front i) body) block))) a) (same ∙ done))
-      | no n ↦ let a = fileAnswer (bodyTests front i body) in
-          step-body front i body Done refl (λ d. n (ap numberOf d))
-          ∙ sym (ap (λ a. left a (fileAnswer (rangeTests front i (left a (blockOf (entryOr front i) body) block))) a) same
-          ∙ left-refused a (fileAnswer (rangeTests front i (left a (blockOf (entryOr front i) body) block))) a n)
-    ]
-  where
-    same : fileAnswer (heldTests front i body block) ≡ fileAnswer (bodyTests front i body)
-    same = passed _ _ (eq-eqb (length block) 1024 long)
 
 module _ (l front : List ℕ) (held : Front l front) (low high : ℕ) where
   -- the answer after all opened bodies

@@ -1,17 +1,15 @@
 -- The rows of an accepted file of bytes, as the writer takes them: whole blocks, at most 256, each of which is laid down
--- from its body. The new file is the writer's for these rows; and where its next body begins.
+-- from its body.
 -- Assumes nothing.
 use mathlib.Core.List.{List}
-use mathlib.Core.Path.{_≡_, refl, ap, _∙_}
-use Prim.Native.Nat.{ℕ, _+_, _*_, _≤_, _<_}
-use native.Mathlib.Numerals.{add-one}
+use mathlib.Core.Path.{_≡_, _∙_}
+use Prim.Native.Nat.{ℕ, _*_, _≤_, _<_}
 use native.Mathlib.Omega.{arith}
-use lib.ListN.{length, drop, replicate}
+use lib.ListN.{length, drop}
 use Rattle.lists.specs.Numbers.{Elements}
 use Rattle.contents.specs.declared.FileAnswer.the-variants.{Done}
 use Rattle.contents.specs.Answers.{fileAnswer}
-use Rattle.contents.specs.Contents.{count, contentsSize, entryOf, bodyStart, contentsTests}
-use Rattle.candidates.specs.Candidates.{chosen}
+use Rattle.contents.specs.Contents.{count, entryOf, bodyStart, contentsTests}
 use Rattle.bodies.proofs.Blocks.{Block, a-block, take-elements, drop-elements}
 use Rattle.files.specs.Files.{bodyOf, blockIn, rowsOf, runsTests, fileTests}
 use Rattle.files.specs.Froms.{fromLeaves}
@@ -20,8 +18,7 @@ use Rattle.files.proofs.Froms.{from-block}
 use Rattle.files.proofs.Ranges.{contents-right, runs-good, file-runs}
 use Rattle.files.proofs.Rows.{rows-count, rows-block}
 use Rattle.writer.specs.Reasons.{Blocks}
-use Rattle.writer.specs.Writer.{blockCount, blockAt, bodiesFor, fileOf}
-use Rattle.writer.proofs.Laying.{bodies-longer, length-file}
+use Rattle.writer.specs.Writer.{blockCount, blockAt}
 
 -- What holds already of a file that is right up to its run indices,
 module _ (l : List ℕ) (runs : fileAnswer (runsTests l) ≡ Done) where
@@ -31,12 +28,6 @@ module _ (l : List ℕ) (runs : fileAnswer (runsTests l) ≡ Done) where
   pub runs-few : count l ≤ 256
   runs-few = whole l runs-right .few
 
-  -- The new file has this length.
-  pub runs-length : length (fileOf (rowsOf l)) ≡ contentsSize 2 (count l) + length (bodiesFor (rowsOf l) (count l))
-  runs-length =
-      let blocks : blockCount (rowsOf l) ≡ count l = omega (arith, rows-count l) in
-      length-file (rowsOf l) ∙ ap (λ n. contentsSize 2 n + length (bodiesFor (rowsOf l) n)) blocks
-
   module _ (bytes : Elements 8 l) (i : ℕ) (h : i < count l) where
     -- A block is 1,024 numbers of 64 bits,
     pub runs-block : Block (blockIn l i)
@@ -45,16 +36,9 @@ module _ (l : List ℕ) (runs : fileAnswer (runsTests l) ≡ Done) where
         a-block (entryOf l i) (bodyOf l i) (body-laid l runs-right i h)
         (take-elements 8 (entryOf l i .length) (drop (bodyStart l i) l) (drop-elements 8 (bodyStart l i) l bytes))
 
-    -- it is laid down from where its body begins,
+    -- and it is laid down from where its body begins.
     pub runs-laid : {from : ℕ} {block : List ℕ} (output : List ℕ) → length output ≡ 1024 → from ≡ bodyStart l i → block ≡ fromLeaves l i from output → block ≡ blockIn l i
     runs-laid {from} {block} output long start left = left ∙ from-block l runs-right i h from start output long (runs-good l runs i h)
-
-    -- and makes one body more of the new file.
-    pub runs-next : length (bodiesFor (rowsOf l) (i + 1)) ≡ length (bodiesFor (rowsOf l) i) + chosen (blockIn l i) .entry .length
-    runs-next =
-        ap (λ k. length (bodiesFor (rowsOf l) k)) (add-one i)
-        ∙ bodies-longer (rowsOf l) i
-        ∙ ap (λ b. length (bodiesFor (rowsOf l) i) + chosen b .entry .length) (rows-block l i h (runs-block .0))
 
 -- and what holds of one that is accepted.
 module _ (l : List ℕ) (done : fileAnswer (fileTests l) ≡ Done) where
@@ -76,23 +60,11 @@ module _ (l : List ℕ) (done : fileAnswer (fileTests l) ≡ Done) where
   pub rows-whole : Blocks (rowsOf l)
   rows-whole = record { n = count l; whole = rows-long; few = few }
 
-  -- The new file has this length.
-  pub length-new : length (fileOf (rowsOf l)) ≡ contentsSize 2 (count l) + length (bodiesFor (rowsOf l) (count l))
-  length-new = runs-length l (file-runs l done)
-
   module _ (bytes : Elements 8 l) (i : ℕ) (h : i < count l) where
     -- A block has 1,024 numbers,
     pub block-long : length (blockIn l i) ≡ 1024
     block-long = runs-block l (file-runs l done) bytes i h .0
 
-    -- it is these of the rows,
+    -- and it is these of the rows.
     pub block-at : blockAt (rowsOf l) i ≡ blockIn l i
     block-at = rows-block l i h block-long
-
-    -- and is laid down over zeros from where its body begins.
-    pub block-laid : {from : ℕ} {block : List ℕ} → from ≡ bodyStart l i → block ≡ fromLeaves l i from (replicate 1024 0) → block ≡ blockIn l i
-    block-laid start left = runs-laid l (file-runs l done) bytes i h (replicate 1024 0) refl start left
-
-    -- One body more of the new file.
-    pub body-next : length (bodiesFor (rowsOf l) (i + 1)) ≡ length (bodiesFor (rowsOf l) i) + chosen (blockIn l i) .entry .length
-    body-next = runs-next l (file-runs l done) bytes i h

@@ -12,18 +12,15 @@ use borrow.Rule.Slice.PartMut.{midOf, postOf, putMid}
 use Rattle.lists.specs.Parts.{cut, joined}
 use Rattle.lists.specs.Tab.{over}
 use Rattle.lists.proofs.Overs.{length-over, over-append, over-apart, over-nothing, over-tail}
-use Rattle.lists.proofs.Parts.{length-joined, length-cut}
-use Rattle.contents.specs.Bytes.{headBytes, entryBytes, entryLeaves}
+use Rattle.lists.proofs.Parts.{length-joined}
+use Rattle.contents.specs.Bytes.{headBytes, entryBytes}
 use Rattle.contents.specs.Contents.{entrySize, contentsSize}
-use Rattle.contents.proofs.Bytes.{length-head, length-entry, entry-fits}
-use Rattle.contents.specs.declared.Entry.{Entry}
-use Rattle.contents.specs.declared.Range.{Range}
+use Rattle.contents.proofs.Bytes.{length-head, length-entry}
 use Rattle.bodies.specs.Ranges.{trueRange}
-use Rattle.candidates.specs.declared.Laid.{Laid}
 use Rattle.candidates.specs.declared.Laid.the-variants.{As}
-use Rattle.candidates.specs.Calls.{entryFor, laidOf, layLeaves, entryLaid, rangeLaid}
+use Rattle.candidates.specs.Calls.{laidOf, layLeaves}
 use Rattle.candidates.specs.Candidates.{chosen, bodyFor}
-use Rattle.candidates.proofs.Calls.{entry-there, laid-there}
+use Rattle.candidates.proofs.Calls.{laid-there}
 use Rattle.candidates.proofs.Choice.{body-sized, chosen-short}
 use Rattle.writer.specs.Writer.{blockCount, blockAt, entriesFor, bodiesFor, fileOf}
 
@@ -162,7 +159,7 @@ module _ (values : List ℕ) where
       (omega (arith, length-head n, length-file, length-append (entriesFor values n) (bodiesFor values n), length-entries n))
       ∙ ap (λ y. over 0 y old) (sym (append-assoc (headBytes n) (entriesFor values n) (bodiesFor values n)))
 
-  -- A part of 1,024 numbers is a block,
+  -- A part of 1,024 numbers is a block.
   pub block-lent : (i : ℕ) → take (i * 1024 + 1024 - i * 1024) (drop (i * 1024) values) ≡ blockAt values i
   unfolding cut
   block-lent i = ap (λ k. take k (drop (i * 1024) values)) part
@@ -170,11 +167,7 @@ module _ (values : List ℕ) where
       part : i * 1024 + 1024 - i * 1024 ≡ 1024
       part = omega arith
 
-  -- and this is its entry.
-  pub entry-lent : (i : ℕ) → i < blockCount values → entryFor (take (i * 1024 + 1024 - i * 1024) (drop (i * 1024) values)) ≡ chosen (blockAt values i) .entry
-  entry-lent i h = ap entryFor (block-lent i) ∙ entry-there (blockAt values i) (length-cut 1024 values i (omega arith))
-
--- A block is laid down through the tail of the output, and its entry and its range in their own place.
+-- A block is laid down through the tail of the output.
 module _ (block : List ℕ) (long : length block ≡ 1024) (at : ℕ) (old : List ℕ) (room : at + chosen block .entry .length ≤ length old) where
   pub one-laid : (laidOf block (midOf at (length old - at) old) ≡ As (chosen block .entry) (trueRange block))
       × (putMid at (length old - at) old (layLeaves block (midOf at (length old - at) old)) ≡ over at (bodyFor block) old)
@@ -187,20 +180,4 @@ module _ (block : List ℕ) (long : length block ≡ 1024) (at : ℕ) (old : Lis
         ap₂ (λ x y. take at old ++ (x ++ y)) (ap (layLeaves block) tail ∙ l .1) rest
             ∙ ap (λ x. take at old ++ x) (append-nil (over 0 (bodyFor block) (drop at old)))
             ∙ over-tail at (bodyFor block) old,
-      )
-
-  pub one-written : (i : ℕ) {given : Laid} {body : List ℕ} {e : Entry} {r : Range} → contentsSize 2 (i + 1) ≤ at
-      → given ≡ laidOf block (midOf at (length old - at) old) → body ≡ layLeaves block (midOf at (length old - at) old)
-      → e ≡ entryLaid given → r ≡ rangeLaid given
-      → (e .length ≡ chosen block .entry .length)
-      × (entryLeaves e r (contentsSize 2 i) (putMid at (length old - at) old body) ≡ over (contentsSize 2 i) (writtenEntry block) (over at (bodyFor block) old))
-  unfolding contentsSize entrySize
-  one-written i {given} {body} {e} {r} before eg eb ee er =
-      let entry : e ≡ chosen block .entry = ee ∙ ap entryLaid (eg ∙ one-laid .0) in
-      let range : r ≡ trueRange block = er ∙ ap rangeLaid (eg ∙ one-laid .0) in (
-        ap (λ e. e .length) entry,
-        ap₂ (λ e r. entryLeaves e r (contentsSize 2 i) (putMid at (length old - at) old body)) entry range
-            ∙ ap (entryLeaves (chosen block .entry) (trueRange block) (contentsSize 2 i)) (ap (putMid at (length old - at) old) eb ∙ one-laid .1)
-            ∙ entry-fits (chosen block .entry) (trueRange block) (contentsSize 2 i) (over at (bodyFor block) old)
-            (omega (arith, length-over at (bodyFor block) old (omega (arith, body-sized block)))),
       )
