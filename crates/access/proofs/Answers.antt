@@ -1,6 +1,6 @@
 -- What access to one place and by a list answers, by the tests that they make, over the element size.
 -- Assumes nothing.
-use mathlib.Core.Path.{_≡_, ap}
+use mathlib.Core.Path.{_≡_}
 use mathlib.Core.List.{List, [], _∷_}
 use Prim.Native.Nat.{ℕ, _*_, _≤_, _<_}
 use native.Mathlib.Omega.{arith}
@@ -11,7 +11,7 @@ use Rattle.lists.proofs.Search.{first-beyond-before}
 use Rattle.places.specs.declared.Answer.{Answer}
 use Rattle.places.specs.declared.Answer.the-variants.{Done, Width, Packed, Lists, Index}
 use Rattle.places.specs.Sizes.{lanes}
-use Rattle.places.specs.Takes.{a-width, a-packed, two-lists, an-index, an-index-list, answerFor}
+use Rattle.places.specs.Takes.{an-index, answerFor}
 use Rattle.places.proofs.Answers.{first-passes}
 use Rattle.access.specs.Calls.{single, singleOf, listTakes}
 use Rattle.access.specs.Counts.{countAt}

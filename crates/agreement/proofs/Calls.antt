@@ -20,7 +20,7 @@ use Rattle.access.specs.Calls.{singleOf}
 use Rattle.access.specs.Counts.{countAt}
 use Rattle.plain.specs.Calls.{plainTakes, plainPackLeaves, plainUnpackLeaves, plainSingleTakes, plainSingle}
 use Rattle.plain.specs.Plain.{plainValue, plainCount}
-use Rattle.plain.proofs.Answers.{Place, single-taken}
+use Rattle.plain.proofs.Answers.{single-taken}
 use Rattle.agreement.proofs.Bits.{pack-agrees, unpack-agrees, place-agrees}
 use Rattle.agreement.proofs.Counts.{count-agrees}
 

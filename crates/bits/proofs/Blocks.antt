@@ -12,7 +12,7 @@ use Rattle.lists.specs.Numbers.{number, digit}
 use Rattle.lists.proofs.Tabs.{getD-tab, length-tab, tab-ext, is-tab}
 use Rattle.lists.proofs.Digits.{number-lt, number-ext, digit-lt}
 use Rattle.bits.specs.Bits.{BitBlock, bit, fromBits, bitOf}
-use Rattle.bits.specs.InnerSteps.{byteAt, bytesOf, gatherOf, turnOf, gathersOf, turnsOf, byteOf}
+use Rattle.bits.specs.InnerSteps.{byteAt, bytesOf, gatherOf, turnOf, gathersOf, turnsOf}
 use Rattle.bits.proofs.Gathers.{strided-lt}
 use Rattle.bits.proofs.Numbers.{bit-lt, bit-mod, bit-shr, bit-number, bit-of-number, is-number}
 

@@ -5,14 +5,14 @@
 use mathlib.Core.Bool.{Bool, true}
 use mathlib.Core.List.{List}
 use mathlib.Core.Path.{_≡_, refl, sym, ap, ap₂, subst, _∙_}
-use Prim.Native.Nat.{ℕ, zero, suc, _+_, _≤_, _<_, min, zero-le}
+use Prim.Native.Nat.{ℕ, zero, suc, _+_, _≤_, _<_, zero-le}
 use native.Mathlib.Numerals.{add-one}
 use native.Mathlib.Omega.{arith}
 use lib.ListN.{length}
 use borrow.Author.Count.{below-more}
 use Rattle.contents.specs.declared.FileAnswer.the-variants.{Done}
 use Rattle.contents.specs.Answers.{fileAnswer}
-use Rattle.contents.specs.Contents.{edition, count, contentsSize, entryOf, bodyStart, contentsTests}
+use Rattle.contents.specs.Contents.{count, contentsSize, entryOf, bodyStart, contentsTests}
 use Rattle.bodywise.specs.declared.Body.{Body}
 use Rattle.bodywise.specs.Cursor.{firstBody, nextBody, walked}
 use Rattle.bodywise.proofs.Fronts.{Front, whole-front}

@@ -33,8 +33,8 @@ ghost use Rattle.deltas.specs.Deltas.{forPackOf};
 ghost use Rattle.little.specs.Little.{writeLeaves};
 ghost use Rattle.contents.specs.Answers.{fileAnswer};
 ghost use Rattle.candidates.specs.Calls.{entryFor, laidOf, layLeaves, answerOf, entryLaid, rangeLaid, measuredOf, entryWith, isReady, byTests, plainLeaves, frameLeaves, stepsLeaves, byLeaves};
-ghost use Rattle.candidates.specs.Candidates.{packedEntry, baseOf, differences as differencesOf, chosen};
-ghost use Rattle.candidates.specs.Measures.{widthsBy, entryBy, shorterEntry, shorterPart, wordsBy, plainBy, frameBy, stepsBy};
+ghost use Rattle.candidates.specs.Candidates.{packedEntry, baseOf, differences as differencesOf};
+ghost use Rattle.candidates.specs.Measures.{widthsBy, entryBy, shorterEntry, shorterPart};
 ghost use Rattle.candidates.specs.Widths.{bits};
 
 const T: usize = 64;

@@ -3,8 +3,7 @@
 -- Assumes nothing.
 use mathlib.Core.List.{List, [], _++_, append-nil}
 use mathlib.Core.Path.{_≡_, refl, sym, ap, ap₂, subst, _∙_}
-use Prim.Native.Nat.{ℕ, zero, suc, _+_, _-_, _*_, _/_, _%_, _^_, _≤_, _<_}
-use native.Mathlib.Decide.{decLt}
+use Prim.Native.Nat.{ℕ, _+_, _*_, _/_, _^_, _≤_, _<_}
 use native.Mathlib.Omega.{arith}
 use lib.ListN.{length, getD, take, drop, length-append, take-append-drop}
 use lib.Seq.{ext-getD, length-take-le}
@@ -15,13 +14,13 @@ use Rattle.lists.proofs.Digits.{elements-of}
 use Rattle.lists.proofs.Lows.{lowest-element}
 use Rattle.lists.proofs.Tabs.{getD-tab, tab-ext, tab-append, tab-getD}
 use Rattle.places.specs.Places.{place}
-use Rattle.places.specs.Sizes.{t64, lanes}
+use Rattle.places.specs.Sizes.{t64}
 use Rattle.places.proofs.Places.{size64}
 use Rattle.little.specs.Little.{little, numbersOf, allBytes}
 use Rattle.little.proofs.Bytes.{length-all, all-small, all-append, words-all}
 use Rattle.little.proofs.Little.{little-past, length-numbers}
 use Rattle.packing.specs.Packed.{packOf, unpackOf}
-use Rattle.packing.proofs.Rounds.{length-pack, length-unpack, pack-fits, pack-unpack}
+use Rattle.packing.proofs.Rounds.{length-pack, length-unpack, pack-unpack}
 use Rattle.deltas.specs.Deltas.{deltaOf, undeltaPackOf, frameOf, forPackOf, unforPackOf}
 use Rattle.deltas.proofs.Lanes.{minus-plus, elements-unpack, length-for-pack}
 use Rattle.deltas.proofs.Restores.{delta-undelta, undelta-pack-is, unfor-pack-is}
@@ -33,9 +32,9 @@ use Rattle.bodies.specs.Bodies.{wordsFrom, packedFrom, blockOf}
 use Rattle.bodies.proofs.Blocks.{take-elements, drop-elements, words-fit}
 use Rattle.files.specs.Files.{bodyOf, blockIn}
 use Rattle.files.proofs.Files.{body-long}
-use Rattle.candidates.specs.Candidates.{Candidate, plainAt, frameAt, stepsAt, plain, frame, steps, baseOf, framed, differences, chosen, bodyFor}
+use Rattle.candidates.specs.Candidates.{Candidate, plainAt, frameAt, stepsAt, baseOf, framed, differences, chosen, bodyFor}
 use Rattle.candidates.specs.Widths.{widthOf}
-use Rattle.candidates.proofs.Choice.{length-base, body-sized, chosen-sized, Which, is-plain, is-frame, is-steps, which}
+use Rattle.candidates.proofs.Choice.{length-base, chosen-sized, Which, is-plain, is-frame, is-steps, which}
 use Rattle.candidates.proofs.Filling.{base-first}
 use Rattle.candidates.proofs.Widths.{width-most}
 use Rattle.canonical.proofs.Files.{Bytes, bytes-of}

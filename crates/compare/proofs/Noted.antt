@@ -8,7 +8,7 @@ use Prim.Native.Nat.{ℕ, _+_, _≤_, _<_}
 use native.Mathlib.Decide.{decLe, ℕ-discrete}
 use native.Mathlib.Nat.{zero-add}
 use native.Mathlib.Omega.{arith}
-use lib.Bits.{bitOr, bitXor, bitAnd, or-add-and, and-le-l, and-le-r, xor-add-and, xor-self, or-zero-l}
+use lib.Bits.{bitOr, bitXor, or-add-and, and-le-l, and-le-r, xor-add-and, xor-self, or-zero-l}
 use lib.Dec.{eqb}
 use lib.ListN.{length, getD, set, length-append}
 use borrow.Author.Tests.{eq-eqb, ne-eqb, eqb-true}

@@ -13,7 +13,7 @@ use lib.ListN.{length}
 use borrow.Author.Tests.{le-leb, lt-leb, eq-eqb, ne-eqb, leb-true, leb-false}
 use Rattle.lists.specs.Pick.{pick, both}
 use Rattle.lists.proofs.Tests.{both-true}
-use Rattle.contents.specs.Contents.{edition, contentsSize, entryOf, noEntry, entryOr, rangeAt, anyRange, rangeOf, rangeOr, isLaidOut, isTakenIn, isOrdered, isRight, hasRightEntry, editionOr, bodiesSize}
+use Rattle.contents.specs.Contents.{edition, contentsSize, entryOf, noEntry, entryOr, rangeAt, anyRange, rangeOf, rangeOr, isLaidOut, isOrdered, isRight, hasRightEntry, editionOr, bodiesSize}
 use Rattle.little.proofs.Little.{little-within}
 use Rattle.contents.proofs.Sizes.{size-least}
 

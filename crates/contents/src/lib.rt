@@ -16,7 +16,7 @@ ghost use lib.Dec.{leb};
 ghost use lib.ListN.{length};
 ghost use Rattle.lists.specs.Search.{firstBad};
 ghost use Rattle.contents.specs.Answers.{numberOf, placeOf, fileAnswer};
-ghost use Rattle.contents.specs.Contents.{edition as editionIn, count as countIn, contentsSize, entrySize, entryAt, entryOf, entryOr, rangeAt, rangeOr, anyRange, rangeOf as rangeIn, noEntry, editionOr, countOr, isPacked, isRuns, isOfKind, isLaidOut, isOrdered, isRight, hasRightEntry, bodiesSize, entriesTests, contentsTests};
+ghost use Rattle.contents.specs.Contents.{edition as editionIn, count as countIn, contentsSize, entrySize, entryAt, entryOr, rangeAt, rangeOr, anyRange, rangeOf as rangeIn, noEntry, editionOr, countOr, isPacked, isRuns, isOfKind, isLaidOut, isOrdered, isRight, hasRightEntry, bodiesSize, entriesTests, contentsTests};
 ghost use Rattle.contents.specs.Bytes.{headLeaves, firstLeaves, entryLeaves};
 
 // What a call on a file answers: that it is done, or why it is refused.

@@ -15,7 +15,6 @@ use lib.Pow.{pow-pos}
 use lib.Seq.{ext-getD}
 use Rattle.lists.specs.Numbers.{minus}
 use Rattle.lists.specs.Pick.{pick}
-use Rattle.lists.specs.Tab.{tab}
 use Rattle.lists.proofs.Digits.{elements-of}
 use Rattle.lists.proofs.Every.{Same, same}
 use Rattle.lists.proofs.Tabs.{getD-tab, length-tab}

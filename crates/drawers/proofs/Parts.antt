@@ -2,12 +2,12 @@
 -- part of n entries into k entries.
 -- Assumes nothing.
 use mathlib.Core.List.{List, [], _∷_, _++_, append-nil, append-assoc}
-use mathlib.Core.Path.{_≡_, refl, sym, ap, ap₂, _∙_, subst}
+use mathlib.Core.Path.{_≡_, refl, sym, ap, ap₂, _∙_}
 use Prim.Native.Nat.{ℕ, zero, suc, _+_, _*_, _≤_, _<_}
 use native.Mathlib.Nat.{suc-mul, mul-le-mul-right, add-mul, add-zero, add-suc, suc-add, zero-add, zero-mul}
 use native.Mathlib.Numerals.{add-one}
 use native.Mathlib.Omega.{arith}
-use lib.ListN.{length, take, drop, length-append, length-take, length-drop}
+use lib.ListN.{length, take, drop, length-take, length-drop}
 use lib.Seq.{drop-drop, drop-length, take-all, take-take, take-append-seam, drop-append-seam}
 use borrow.Rule.Slice.PartMut.{putMid}
 use Rattle.lists.specs.Parts.{cut, joined}

@@ -2,16 +2,16 @@
 -- it. Left and right are one law, and what comes behind is a premise of it.
 -- Assumes nothing.
 use mathlib.Core.Bool.{Bool, true, false}
-use mathlib.Core.List.{List, [], _++_, append-nil}
+use mathlib.Core.List.{List, append-nil}
 use mathlib.Core.Path.{_≡_, refl, sym, ap, ap₂, _∙_}
-use Prim.Native.Nat.{ℕ, zero, suc, _+_, _-_, _≤_, _<_, min, zero-le}
-use native.Mathlib.Decide.{decLe, ℕ-discrete}
-use native.Mathlib.Nat.{zero-add, add-zero}
+use Prim.Native.Nat.{ℕ, zero, suc, _+_, _-_, _≤_, _<_, min}
+use native.Mathlib.Decide.{ℕ-discrete}
+use native.Mathlib.Nat.{zero-add}
 use native.Mathlib.Numerals.{add-one}
 use native.Mathlib.Omega.{arith}
 use lib.Dec.{leb}
 use lib.ListN.{length, take, drop}
-use borrow.Author.Tests.{eqb-true, eqb-false, lt-ltb, le-ltb, le-leb, leb-true}
+use borrow.Author.Tests.{eqb-true, eqb-false, leb-true}
 use Rattle.lists.specs.Pick.{pick}
 use Rattle.lists.specs.Tab.{over}
 use Rattle.lists.proofs.Overs.{over-front}
@@ -19,29 +19,28 @@ use Rattle.contents.specs.declared.Entry.{Entry}
 use Rattle.contents.specs.declared.FileAnswer.{FileAnswer}
 use Rattle.contents.specs.declared.FileAnswer.the-variants.{Done as Accepted}
 use Rattle.contents.specs.Answers.{fileAnswer, numberOf, isDone}
-use Rattle.contents.specs.Contents.{editionOr, countOr, count, contentsSize, entryOf, entryOr, bodyStart, isLaidOut, contentsTests}
+use Rattle.contents.specs.Contents.{editionOr, countOr, count, contentsSize, entryOf, bodyStart, isLaidOut, contentsTests}
 use Rattle.contents.proofs.Answers.{number-done, in-front-refused}
 use Rattle.contents.proofs.Laid.{laid-packed, laid-frame, laid-differences, laid-runs, laid-kind}
 use Rattle.bodywise.specs.declared.Body.{Body}
 use Rattle.bodywise.specs.Cursor.{bodyAt, firstBody, nextBody}
 use Rattle.bodywise.specs.Steps.{stepOf, answerAfter, frontSize, frontOf}
-use Rattle.bodywise.proofs.Fronts.{Front, front-right, by-size}
+use Rattle.bodywise.proofs.Fronts.{front-right, by-size}
 use Rattle.bodywise.proofs.Steps.{step-settled}
 use Rattle.bodywise.proofs.Told.{body-laid}
 use Rattle.bodywise.proofs.Walking.{Walking, first-walking, next-walking, next-number}
-use Rattle.files.specs.Files.{bodyOf, fileTests}
+use Rattle.files.specs.Files.{bodyOf}
 use Rattle.files.proofs.Held.{held-answer}
 use Rattle.wishes.specs.declared.Side.{Side}
 use Rattle.wishes.specs.declared.Side.the-variants.{Left, Right}
 use Rattle.wishes.specs.declared.Part.the-variants.{Front as OfFront, Body as OfBody}
 use Rattle.wishes.specs.declared.Wish.the-variants.{Read, Write}
-use Rattle.wishes.specs.Runs.{Held, Given, Ran, filled, fileOn, partAt, before, ends, runsBy}
+use Rattle.wishes.specs.Runs.{Held, Ran, filled, fileOn, partAt, before, runsBy}
 use Rattle.wishes.proofs.Turn.{wrote, did-read, ended}
 use Rattle.listing.specs.declared.Stage.the-variants.{Head, Front as AtFront, Checking, End}
 use Rattle.listing.specs.declared.State.{State}
-use Rattle.listing.specs.declared.Turn.{Turn}
 use Rattle.listing.specs.Text.{refusalLine, answerTo, unlessRefused, blocksOf}
-use Rattle.listing.specs.Machine.{given, turnTo, lastText, refusal, askHead, askFront, bodyWish, atBody, askBody, behind, goTo, checkedBy, checkFront, nextOf}
+use Rattle.listing.specs.Machine.{given, turnTo, lastText, refusal, askHead, askFront, bodyWish, atBody, behind, goTo, checkedBy, checkFront, nextOf}
 use Rattle.listing.proofs.Stages.{over-text, over-room, frontIn, other, sizeIn, read-front, read-other, kept-front, kept-other, at-end, at-head, at-front, at-body, to-more, to-over}
 
 -- ---- a body as it is read

@@ -1,15 +1,14 @@
 -- The lines of a block: what the loop over its places keeps.
 -- Assumes nothing.
 use mathlib.Core.List.{List, [], _∷_, _++_, map}
-use mathlib.Core.Path.{_≡_, refl, sym, ap, ap₂, _∙_}
-use Prim.Native.Nat.{ℕ, zero, suc, _+_, _*_, _-_, _≤_, _<_}
+use mathlib.Core.Path.{_≡_, refl, sym, ap, _∙_}
+use Prim.Native.Nat.{ℕ, zero, suc, _+_, _*_, _≤_, _<_}
 use native.Mathlib.Nat.{zero-add, le-of-suc-le-suc}
 use native.Mathlib.Omega.{arith}
-use lib.ListN.{length, getD, take, drop, length-map, length-append}
+use lib.ListN.{length, getD, take, drop, length-map}
 use lib.Seq.{take-all, getD-take}
 use borrow.Author.Tests.{eq-eqb}
 use Rattle.lists.specs.Tab.{over}
-use Rattle.lists.specs.Passing.{failingFrom}
 use Rattle.lists.proofs.Overs.{over-front, over-rest}
 use Rattle.lists.proofs.Failing.{failing-few}
 use Rattle.contents.specs.declared.FileAnswer.{FileAnswer}

@@ -2,10 +2,10 @@
 -- And no wish of the machine, in any state, is for more than its buffer has room for (R129).
 -- Assumes nothing.
 use mathlib.Core.Bool.{Bool, true, false}
-use mathlib.Core.List.{List, [], _∷_, _++_, append-nil, append-assoc}
+use mathlib.Core.List.{List, [], _++_, append-nil, append-assoc}
 use mathlib.Core.Path.{_≡_, refl, sym, ap, ap₂, _∙_}
 use Prim.Native.Nat.{ℕ, zero, suc, _+_, _*_, _-_, _≤_, _<_, min, zero-le}
-use native.Mathlib.Nat.{zero-add, add-zero, add-assoc}
+use native.Mathlib.Nat.{zero-add, add-zero}
 use native.Mathlib.Numerals.{add-one}
 use native.Mathlib.Omega.{arith}
 use lib.ListN.{length, take, replicate, length-append, length-replicate}
@@ -14,39 +14,36 @@ use Rattle.lists.specs.Pick.{pick}
 use Rattle.lists.specs.Tab.{over}
 use Rattle.lists.proofs.Overs.{over-front}
 use Rattle.places.specs.Sizes.{largestU64}
-use Rattle.contents.specs.declared.FileAnswer.{FileAnswer}
 use Rattle.contents.specs.declared.FileAnswer.the-variants.{Done as Accepted}
 use Rattle.contents.specs.Answers.{fileAnswer, numberOf, isDone}
-use Rattle.contents.specs.Contents.{count, countOr, entryOf, entryOr, bodyStart, contentsTests}
+use Rattle.contents.specs.Contents.{count, countOr, entryOr, bodyStart, contentsTests}
 use Rattle.contents.proofs.Accepted.{done-first}
 use Rattle.contents.proofs.Answers.{number-done}
 use Rattle.bodies.specs.Bodies.{blockOf}
-use Rattle.bodywise.specs.declared.Body.{Body}
 use Rattle.bodywise.specs.Cursor.{bodyAt, firstBody, nextBody}
 use Rattle.bodywise.specs.Steps.{bodyTests, rangeTests, frontOf}
-use Rattle.bodywise.proofs.Fronts.{Front, front-right}
+use Rattle.bodywise.proofs.Fronts.{front-right}
 use Rattle.bodywise.proofs.Told.{whole}
-use Rattle.bodywise.proofs.Walking.{Walking, first-walking, next-walking, next-number}
-use Rattle.files.specs.Files.{bodyOf, blockIn, rowCount, fileTests}
+use Rattle.bodywise.proofs.Walking.{first-walking, next-walking, next-number}
+use Rattle.files.specs.Files.{bodyOf, blockIn, rowCount}
 use Rattle.files.proofs.Held.{again-answer, again-range}
 use Rattle.files.proofs.Ranges.{contents-right, file-runs}
 use Rattle.compare.specs.declared.Change.{Change}
 use Rattle.compare.specs.Changes.{differing, changesIn, changesOf, changesTo}
-use Rattle.compare.specs.Ranges.{sameRange}
 use Rattle.compare.proofs.Lists.{blocks-list}
 use Rattle.wishes.specs.declared.Side.the-variants.{Left, Right}
-use Rattle.wishes.specs.declared.Part.the-variants.{Front as OfFront, Body as OfBody}
-use Rattle.wishes.specs.declared.Wish.the-variants.{Read, Write, Done}
-use Rattle.wishes.specs.Runs.{Held, Given, Ran, filled, partAt, before, runsBy}
+use Rattle.wishes.specs.declared.Part.the-variants.{Body as OfBody}
+use Rattle.wishes.specs.declared.Wish.the-variants.{Write}
+use Rattle.wishes.specs.Runs.{Held, filled, partAt, before, runsBy}
 use Rattle.wishes.proofs.Turn.{wrote, did-read}
-use Rattle.listing.specs.declared.Stage.the-variants.{Checked, Between, Again}
+use Rattle.listing.specs.declared.Stage.the-variants.{Checked, Again}
 use Rattle.listing.specs.declared.State.{State}
 use Rattle.listing.specs.Text.{linesOf, lastLines, changesText, answerTo, unlessRefused, listingOf, blocksOf, turnsOf}
 use Rattle.listing.specs.Machine.{given, turnTo, bodyWish, atBodies, between, past, begin, askAgain, listed, compared, bothThere, startOf, mostTurns, nextOf}
-use Rattle.listing.proofs.Stages.{over-text, over-room, at-checked, at-between, at-left-again, at-right-again, on-more, on-over, there-both, laid-good, alike, same-blocks, ranges-good, compared-taken}
+use Rattle.listing.proofs.Stages.{over-text, over-room, at-checked, at-between, at-left-again, at-right-again, on-more, on-over, there-both, laid-good, compared-taken}
 use Rattle.listing.proofs.Lines.{lines-none, lines-append}
 use Rattle.listing.proofs.Listed.{changes-long, differ-few}
-use Rattle.listing.proofs.Checks.{body-read, again-walking, printed, Sized, last-text, checks-file}
+use Rattle.listing.proofs.Checks.{body-read, again-walking, printed, last-text, checks-file}
 
 -- ---- the changes, from a block on
 

@@ -2,11 +2,11 @@
 -- there leaves.
 -- Assumes nothing.
 use mathlib.Core.Bool.{Bool, true, false}
-use mathlib.Core.List.{List, []}
-use mathlib.Core.Path.{_≡_, refl, sym, ap, ap₂, _∙_}
-use Prim.Native.Nat.{ℕ, _*_, _≤_, _<_, min}
+use mathlib.Core.List.{List}
+use mathlib.Core.Path.{_≡_, refl, sym, ap, _∙_}
+use Prim.Native.Nat.{ℕ, _*_, _≤_, _<_}
 use native.Mathlib.Omega.{arith}
-use lib.Dec.{eqb, leb}
+use lib.Dec.{eqb}
 use lib.ListN.{length, length-append, length-take, length-drop}
 use borrow.Author.Tests.{le-leb, lt-leb, lt-ltb, le-ltb, eq-eqb, ne-eqb}
 use Rattle.lists.specs.Pick.{pick, both}
@@ -24,13 +24,12 @@ use Rattle.compare.specs.Ranges.{sameRange}
 use Rattle.wishes.specs.declared.Side.{Side}
 use Rattle.wishes.specs.declared.Side.the-variants.{Left, Right}
 use Rattle.wishes.specs.declared.Part.the-variants.{Front as OfFront, Body as OfBody}
-use Rattle.wishes.specs.Runs.{Held, Given, filled}
+use Rattle.wishes.specs.Runs.{Held, filled}
 use Rattle.listing.specs.declared.Stage.{Stage}
 use Rattle.listing.specs.declared.Stage.the-variants.{Head, Front, Checking, Checked, Between, Again, End}
 use Rattle.listing.specs.declared.State.{State}
-use Rattle.listing.specs.declared.Turn.{Turn}
 use Rattle.listing.specs.Text.{lastLines}
-use Rattle.listing.specs.Machine.{given, doneTurn, turnTo, lastText, refusal, atBody, askHead, askFront, askBody, bodyWish, behind, goTo, checkedBy, checkFront, checkBody, begin, blocksInBoth, goOn, askAgain, listed, stillTaken, compared, bothLaid, bothThere, byStage, nextOf}
+use Rattle.listing.specs.Machine.{given, doneTurn, turnTo, lastText, refusal, atBody, askFront, askBody, bodyWish, behind, goTo, checkedBy, checkFront, checkBody, begin, blocksInBoth, goOn, askAgain, listed, stillTaken, compared, bothLaid, bothThere, byStage, nextOf}
 
 -- ---- a text that is laid
 

@@ -2,8 +2,7 @@
 -- definition for each step of the code. `left` and `right` with `Front` or `Body` are what the buffers hold. That its
 -- runs print what Text says is the theorem.
 -- Assumes nothing.
-use mathlib.Core.Bool.{true, false}
-use mathlib.Core.List.{List, []}
+use mathlib.Core.List.{List}
 use Prim.Native.Nat.{ℕ, _+_, _*_, min}
 use lib.Dec.{eqb, leb, ltb}
 use lib.ListN.{length}
@@ -25,7 +24,7 @@ use Rattle.wishes.specs.declared.Side.the-variants.{Left, Right}
 use Rattle.wishes.specs.declared.Part.the-variants.{Front as OfFront, Body as OfBody}
 use Rattle.wishes.specs.declared.Wish.{Wish}
 use Rattle.wishes.specs.declared.Wish.the-variants.{Read, Write, Done}
-use Rattle.wishes.specs.Runs.{Held, Given, Machine}
+use Rattle.wishes.specs.Runs.{Given, Machine}
 use Rattle.listing.specs.declared.Stage.{Stage}
 use Rattle.listing.specs.declared.Stage.the-variants.{Head, Front, Checking, Checked, Between, Again, End}
 use Rattle.listing.specs.declared.State.{State}

@@ -1,7 +1,7 @@
 -- Where the values of a block stand (R15 to R17), where the next row starts (R19), and where the value transpose takes
 -- each value from (R21). At element size t a block has t rows, below t, and LANES lanes, below LANES.
 -- Assumes nothing.
-use mathlib.Core.List.{List, [], _∷_}
+use mathlib.Core.List.{[], _∷_}
 use Prim.Native.Nat.{ℕ, _+_, _-_, _*_, _/_, _%_}
 use lib.Dec.{eqb}
 use lib.ListN.{getD}

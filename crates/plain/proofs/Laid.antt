@@ -5,7 +5,6 @@ use mathlib.Core.List.{List}
 use mathlib.Core.Path.{_≡_, sym, ap, ap₂, _∙_, subst}
 use Prim.Native.Nat.{ℕ, _+_, _*_, _/_, _%_, _^_, _<_}
 use native.Mathlib.Nat.{one-mul, mul-comm, mod-lt, div-add-mod', div-lt-iff-lt-mul}
-use native.Mathlib.Omega.{arith}
 use lib.Arith.{digits-lt, digits-div, digits-mod}
 use lib.ListN.{getD}
 use Rattle.lists.specs.Numbers.{Elements}

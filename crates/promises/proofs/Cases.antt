@@ -2,7 +2,7 @@
 -- of case. It leaves to a case only what is computed from its numbers.
 -- Assumes nothing.
 use mathlib.Core.Bool.{Bool, true, false}
-use mathlib.Core.List.{List, [], _∷_}
+use mathlib.Core.List.{List}
 use mathlib.Core.Path.{_≡_, refl, sym, ap, ap₂, _∙_, subst}
 use Prim.Native.Nat.{ℕ, zero, suc, _+_, _*_, _%_, _^_, _≤_, _<_}
 use native.Mathlib.Numerals.{add-one}
@@ -37,12 +37,12 @@ use Rattle.deltas.specs.Calls.{deltaLeaves}
 use Rattle.deltas.proofs.Answers.{for-pack-leaves, unfor-pack-leaves, delta-leaves}
 use Rattle.deltas.proofs.Restores.{frame-back}
 use Rattle.deltas.proofs.Lanes.{length-for-pack, delta-first, delta-next}
-use Rattle.runs.specs.Calls.{decodeTakes, decodeLeaves}
+use Rattle.runs.specs.Calls.{decodeLeaves}
 use Rattle.runs.specs.Runs.{decodeOf}
 use Rattle.runs.proofs.Answers.{decode-done}
 use Rattle.bits.specs.Bits.{bit, goesTo, transposeBitsOf}
 use Rattle.bits.proofs.Bits.{transpose-puts}
-use Rattle.promises.specs.Cases.{Mark, _at_, Holding, Whole, Rows, SameAt, Needed, Each, stands, comes, packs, reads, frames, steps, runs, moves, Holds, rowsP6, blockP10, indicesP10, valuesP10, cases, All}
+use Rattle.promises.specs.Cases.{Mark, _at_, Holding, Rows, SameAt, Needed, Each, stands, comes, packs, reads, frames, steps, runs, moves, Holds, rowsP6, blockP10, indicesP10, valuesP10, cases, All}
 
 -- ---- a place, a source, and a bit
 

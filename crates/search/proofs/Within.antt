@@ -29,7 +29,7 @@ use Rattle.contents.specs.declared.FileAnswer.the-variants.{Done}
 use Rattle.contents.specs.Answers.{fileAnswer}
 use Rattle.contents.specs.Contents.{edition, count, rangeOf, editionOr, rangeOr, contentsTests}
 use Rattle.bodies.specs.Ranges.{isRange}
-use Rattle.bodywise.proofs.Fronts.{Front, whole-front}
+use Rattle.bodywise.proofs.Fronts.{whole-front}
 use Rattle.files.specs.Files.{blockIn, hasTrueRange}
 use Rattle.search.specs.Search.{between}
 use Rattle.search.specs.Steps.{inBlock, foundIn}

@@ -3,7 +3,6 @@ use little::pair;
 use little::quad;
 use little::word;
 ghost use mathlib.Core.Path.{_≡_};
-ghost use Prim.Native.Nat.{_%_, _^_};
 ghost use Rattle.little.specs.Little.{littleOr};
 
 // The element whose bytes begin at `at`; 0 where they are not all there.

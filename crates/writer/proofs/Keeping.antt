@@ -2,7 +2,6 @@
 -- one that is measured then.
 -- Assumes nothing.
 use mathlib.Core.List.{List}
-use mathlib.Core.Logic.{_≢_}
 use mathlib.Core.Path.{_≡_, sym, ap, ap₂, _∙_}
 use Prim.Native.Nat.{ℕ, _+_, _-_, _*_, _≤_, _<_}
 use native.Mathlib.Decide.{decLt}
@@ -28,7 +27,7 @@ use Rattle.candidates.specs.Candidates.{chosen, bodyFor, differences}
 use Rattle.candidates.specs.Widths.{widthOf}
 use Rattle.candidates.proofs.Calls.{true-answer, true-leaves, true-entry, laid-left}
 use Rattle.candidates.proofs.Choice.{body-sized}
-use Rattle.writer.specs.InnerKept.{KeptAt, Kept, Rooms}
+use Rattle.writer.specs.InnerKept.{Kept, Rooms}
 use Rattle.writer.proofs.Laying.{writtenEntry, one-laid}
 
 -- Three numbers that are stored one after another.

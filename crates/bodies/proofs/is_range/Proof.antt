@@ -1,11 +1,10 @@
 -- `bodies::is_range` meets its contract: the ends that are found are those of all values, whether a block is lent by
 -- its length or the values as they are.
 -- Assumes nothing.
-use mathlib.Core.Path.{_≡_, sym, ap, ap₂, _∙_}
+use mathlib.Core.Path.{sym, ap, ap₂, _∙_}
 use native.Mathlib.Omega.{arith}
 use denote.Ref.{now}
 use lib.Dec.{eqb}
-use lib.ListN.{length, take}
 use lib.Seq.{take-all, length-take-le}
 use borrow.Author.Needs.{needs}
 use Rattle.lists.specs.Pick.{both}

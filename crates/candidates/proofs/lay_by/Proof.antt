@@ -1,7 +1,7 @@
 -- `candidates::lay_by` meets its contract: each refusal by its test; else each room has its body at the front, and the
 -- shortest is written.
 -- Assumes nothing.
-use mathlib.Core.Bool.{true, false}
+use mathlib.Core.Bool.{true}
 use mathlib.Core.Path.{_≡_, sym, ap, _∙_}
 use Prim.Native.Nat.{_≤_}
 use native.Mathlib.Omega.{arith}

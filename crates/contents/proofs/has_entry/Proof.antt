@@ -5,7 +5,6 @@ use Prim.Native.Nat.{suc, _+_, _-_, _/_}
 use native.Mathlib.Omega.{arith}
 use lib.ListN.{length}
 use denote.Ref.{now}
-use borrow.Author.Needs.{needs}
 use borrow.Author.Tests.{lt-leb}
 use Rattle.little.proofs.Little.{same-leb}
 use Rattle.contents.specs.Contents.{contentsSize}

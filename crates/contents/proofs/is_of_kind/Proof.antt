@@ -1,6 +1,5 @@
 -- `contents::is_of_kind` meets its contract: each arm is the tests of its kind.
 -- Assumes nothing.
-use mathlib.Core.Path.{_≡_}
 use native.Mathlib.Omega.{arith}
 use borrow.Author.Needs.{needs}
 use borrow.Author.Tests.{ne-eqb}

@@ -1,9 +1,8 @@
 -- `contents::range_of` meets its contract: in edition 2 the range is read, and in edition 1 there is none.
 -- Assumes nothing.
-use mathlib.Core.Path.{_≡_, sym, ap, _∙_}
+use mathlib.Core.Path.{sym, ap, _∙_}
 use Prim.Native.Nat.{_+_}
 use native.Mathlib.Omega.{arith}
-use lib.ListN.{length}
 use denote.Ref.{now}
 use borrow.Author.Needs.{needs}
 use Rattle.contents.specs.Contents.{contentsSize, rangeAt}

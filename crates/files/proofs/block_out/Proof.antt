@@ -10,7 +10,7 @@ use Rattle.contents.specs.declared.FileAnswer.the-variants.{Done}
 use Rattle.contents.specs.Answers.{numberOf, fileAnswer, left}
 use Rattle.contents.specs.Contents.{count, contentsTests}
 use Rattle.contents.proofs.Answers.{left-refused}
-use Rattle.files.specs.Files.{blockIn, badRange, fileTests, blockOutTests, blockOutLeaves}
+use Rattle.files.specs.Files.{blockIn, badRange, blockOutTests, blockOutLeaves}
 use Rattle.files.proofs.Calls.{bad-output, block-refused, block-beyond, file-done, block-decides, block-leaves}
 use Rattle.bodywise.proofs.Told.{count-read}
 use Rattle.files.proofs.Others.{badBut}

@@ -1,6 +1,6 @@
 -- `listing::ask_again` meets its contract.
 -- Assumes nothing.
-use mathlib.Core.Path.{_≡_, sym, ap, ap₂, _∙_}
+use mathlib.Core.Path.{ap, _∙_}
 use Rattle.listing.specs.declared.Stage.the-variants.{Again}
 use Rattle.listing.specs.Machine.{turnTo, bodyWish}
 use borrow.Author.Needs.{needs}

@@ -1,6 +1,6 @@
 -- `listing::ask_body` meets its contract.
 -- Assumes nothing.
-use mathlib.Core.Path.{_≡_, sym, ap, ap₂, _∙_}
+use mathlib.Core.Path.{ap₂, _∙_}
 use Rattle.listing.specs.declared.Stage.the-variants.{Checking}
 use Rattle.listing.specs.Machine.{turnTo}
 use borrow.Author.Needs.{needs}

@@ -1,6 +1,6 @@
 -- `listing::ask_front` meets its contract.
 -- Assumes nothing.
-use mathlib.Core.Path.{_≡_, sym, ap, ap₂, _∙_}
+use mathlib.Core.Path.{ap, _∙_}
 use Rattle.wishes.specs.declared.Part.the-variants.{Front as OfFront}
 use Rattle.wishes.specs.declared.Wish.the-variants.{Read}
 use Rattle.listing.specs.declared.Stage.the-variants.{Front}

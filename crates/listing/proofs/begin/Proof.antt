@@ -1,6 +1,6 @@
 -- `listing::begin` meets its contract.
 -- Assumes nothing.
-use mathlib.Core.Path.{_≡_, sym, ap, ap₂, _∙_}
+use mathlib.Core.Path.{ap, ap₂, _∙_}
 use Rattle.listing.specs.Machine.{atBodies, between}
 use borrow.Author.Needs.{needs}
 use Rattle.listing.proofs.begin.Statement.{statement}

@@ -1,6 +1,6 @@
 -- `listing::both_there` meets its contract, by whether the block is in both files, and is the same in both.
 -- Assumes nothing.
-use mathlib.Core.Path.{_≡_, sym, ap, ap₂, _∙_}
+use mathlib.Core.Path.{sym, ap, _∙_}
 use denote.Ref.{now}
 use native.Mathlib.Omega.{arith}
 use Rattle.listing.specs.Machine.{turnOf}

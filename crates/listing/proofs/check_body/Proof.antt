@@ -1,6 +1,6 @@
 -- `listing::check_body` meets its contract, by the answer to the body.
 -- Assumes nothing.
-use mathlib.Core.Path.{_≡_, sym, ap, ap₂, _∙_}
+use mathlib.Core.Path.{sym, ap, _∙_}
 use denote.Ref.{now}
 use Rattle.bodywise.specs.Cursor.{nextBody}
 use Rattle.listing.specs.Machine.{turnOf, goTo}

@@ -1,6 +1,6 @@
 -- `listing::check_front` meets its contract, by the answer to the contents.
 -- Assumes nothing.
-use mathlib.Core.Path.{_≡_, sym, ap, ap₂, _∙_}
+use mathlib.Core.Path.{sym, ap, _∙_}
 use denote.Ref.{now}
 use Rattle.listing.specs.Machine.{turnOf, goTo}
 use Rattle.listing.proofs.Stages.{front-bad, front-good}

@@ -1,6 +1,6 @@
 -- `listing::compare_laid` meets its contract, by whether a row differs and by the ranges.
 -- Assumes nothing.
-use mathlib.Core.Path.{_≡_, sym, ap, ap₂, _∙_}
+use mathlib.Core.Path.{_≡_, sym, ap, _∙_}
 use mathlib.Core.Bool.{false}
 use mathlib.Core.Logic.{⊎-elim}
 use denote.Ref.{now}

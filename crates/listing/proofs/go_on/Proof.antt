@@ -1,9 +1,8 @@
 -- `listing::go_on` meets its contract, by whether a block is left.
 -- Assumes nothing.
-use mathlib.Core.Path.{_≡_, sym, ap, ap₂, _∙_}
+use mathlib.Core.Path.{sym, ap, ap₂, _∙_}
 use denote.Ref.{now}
 use native.Mathlib.Omega.{arith}
-use Prim.Native.Nat.{_*_}
 use lib.ListN.{length}
 use Rattle.lists.specs.Tab.{over}
 use Rattle.wishes.specs.declared.Wish.the-variants.{Write}

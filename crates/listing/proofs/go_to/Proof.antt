@@ -1,6 +1,6 @@
 -- `listing::go_to` meets its contract, by whether a body is left.
 -- Assumes nothing.
-use mathlib.Core.Path.{_≡_, sym, ap, ap₂, _∙_}
+use mathlib.Core.Path.{sym, _∙_}
 use denote.Ref.{now}
 use native.Mathlib.Omega.{arith}
 use Rattle.listing.proofs.Stages.{to-more, to-over}

@@ -1,8 +1,7 @@
 -- `listing::lay_both` meets its contract, by the answers to both bodies.
 -- Assumes nothing.
-use mathlib.Core.Path.{_≡_, sym, ap, ap₂, _∙_}
+use mathlib.Core.Path.{sym, ap, ap₂, _∙_}
 use denote.Ref.{now}
-use native.Mathlib.Omega.{arith}
 use Rattle.listing.specs.Machine.{turnOf, compared}
 use Rattle.listing.proofs.Stages.{left-laid-bad, right-laid-bad, laid-good}
 use Rattle.listing.proofs.Listed.{tests-same, laid-as}

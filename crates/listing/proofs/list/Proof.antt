@@ -1,7 +1,6 @@
 -- `listing::list` meets its contract.
 -- Assumes nothing.
-use mathlib.Core.Path.{_≡_, sym, ap, ap₂, _∙_}
-use denote.Ref.{now}
+use mathlib.Core.Path.{ap, _∙_}
 use Prim.Native.Nat.{_+_, min}
 use Rattle.places.specs.Sizes.{largestU64}
 use Rattle.listing.specs.Machine.{between, listed}

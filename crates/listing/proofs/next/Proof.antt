@@ -1,6 +1,6 @@
 -- `listing::next` meets its contract, by what was wished for last.
 -- Assumes nothing.
-use mathlib.Core.Path.{_≡_, sym, ap, ap₂, _∙_}
+use mathlib.Core.Path.{sym, ap, _∙_}
 use denote.Ref.{now}
 use native.Mathlib.Omega.{arith}
 use Rattle.wishes.specs.Runs.{held}

@@ -1,6 +1,6 @@
 -- `listing::past` meets its contract.
 -- Assumes nothing.
-use mathlib.Core.Path.{_≡_, sym, ap, ap₂, _∙_}
+use mathlib.Core.Path.{ap, ap₂, _∙_}
 use denote.Ref.{now}
 use Rattle.bodywise.specs.Cursor.{nextBody}
 use Rattle.listing.specs.Machine.{atBodies}

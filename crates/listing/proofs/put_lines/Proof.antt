@@ -1,15 +1,10 @@
 -- `listing::put_lines` meets its contract: the lines of the first k places are laid.
 -- Assumes nothing.
-use mathlib.Core.List.{map}
-use mathlib.Core.Path.{_≡_, sym, ap, ap₂, _∙_}
-use Prim.Native.Nat.{_+_, _-_, _*_, _≤_}
+use Prim.Native.Nat.{_-_, _≤_}
 use native.Mathlib.Omega.{arith}
 use denote.Ref.{now}
-use lib.ListN.{length}
-use Rattle.lists.specs.Tab.{over}
-use Rattle.compare.specs.Changes.{differing, changesIn}
-use Rattle.listing.specs.Text.{linesOf}
-use Rattle.listing.proofs.Lines.{LaidTo, laid-none, laid-keeps, change-most}
+use Rattle.compare.specs.Changes.{changesIn}
+use Rattle.listing.proofs.Lines.{LaidTo, laid-none, change-most}
 use Rattle.listing.proofs.Listed.{differ-few, change-next, laid-all, laid-length}
 use borrow.Author.Needs.{needs}
 use Rattle.listing.proofs.put_lines.Statement.{statement}

@@ -1,6 +1,6 @@
 -- `listing::refuse` meets its contract.
 -- Assumes nothing.
-use mathlib.Core.Path.{_≡_, sym, ap, ap₂, _∙_}
+use mathlib.Core.Path.{ap, _∙_}
 use Rattle.wishes.specs.declared.Wish.the-variants.{Write}
 use Rattle.listing.specs.declared.Stage.the-variants.{End}
 use Rattle.listing.specs.Machine.{turnTo, refusal}

@@ -1,6 +1,6 @@
 -- `listing::same_body` meets its contract, test by test.
 -- Assumes nothing.
-use mathlib.Core.Path.{_≡_, sym, _∙_}
+use mathlib.Core.Path.{sym, _∙_}
 use borrow.Author.Needs.{needs}
 use borrow.Author.Tests.{not-false}
 use Rattle.lists.proofs.Tests.{false-true}

@@ -1,6 +1,6 @@
 -- `rewrite::rewrite` meets its contract: a renumbering without pairs is a rewrite.
 -- Assumes nothing.
-use mathlib.Core.Path.{_≡_, ap, _∙_}
+use mathlib.Core.Path.{ap, _∙_}
 use denote.Ref.{now}
 use borrow.Author.Needs.{needs}
 use Rattle.rewrite.specs.InnerPairless.{asWritten}

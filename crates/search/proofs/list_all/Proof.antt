@@ -1,12 +1,10 @@
 -- `search::list_all` meets its contract. The loop's invariant: the first j rows are listed, and the next sixteen are at
 -- hand.
 -- Assumes nothing.
-use mathlib.Core.Path.{_≡_, refl, sym, ap, ap₂, _∙_}
-use Prim.Native.Nat.{_+_, _-_, _*_, _%_, _≤_}
-use native.Mathlib.Nat.{zero-add, add-assoc}
+use mathlib.Core.Path.{_≡_, refl, ap, _∙_}
+use Prim.Native.Nat.{_+_, _-_, _%_, _≤_}
 use native.Mathlib.Omega.{arith}
 use denote.Ref.{now}
-use lib.ListN.{length}
 use borrow.Author.Needs.{needs}
 use Rattle.lists.specs.Tab.{tab, over}
 use Rattle.lists.proofs.Tabs.{written-length}

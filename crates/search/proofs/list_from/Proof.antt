@@ -1,7 +1,7 @@
 -- `search::list_from` meets its contract: a block whose range lies within the bounds is listed whole, and of another
 -- one that is laid down the rows are listed.
 -- Assumes nothing.
-use mathlib.Core.Path.{_≡_, refl, sym, ap, _∙_}
+use mathlib.Core.Path.{_≡_, sym, ap, _∙_}
 use Prim.Native.Nat.{_+_, _*_, _≤_}
 use native.Mathlib.Omega.{arith}
 use denote.Ref.{now}

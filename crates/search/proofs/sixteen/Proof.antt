@@ -1,10 +1,10 @@
 -- `search::sixteen` meets its contract. The loop's invariant: the first l rows are there.
 -- Assumes nothing.
-use mathlib.Core.Path.{_≡_, refl, sym}
+use mathlib.Core.Path.{refl, sym}
 use Prim.Native.Nat.{_+_, _-_, _≤_}
 use native.Mathlib.Nat.{zero-add}
 use native.Mathlib.Omega.{arith}
-use lib.ListN.{length, replicate}
+use lib.ListN.{replicate}
 use borrow.Author.Needs.{needs}
 use Rattle.lists.proofs.Tabs.{Written, written-none, written-next, written-all}
 use Rattle.search.proofs.sixteen.Statement.{statement}

@@ -1,11 +1,11 @@
 -- `writer::lay_blocks` meets its contract: after each block the output holds the entries and the bodies up to there.
 -- Assumes nothing.
 use mathlib.Core.Path.{_≡_, sym, ap, subst, _∙_}
-use Prim.Native.Nat.{_+_, _-_, _*_, _≤_, suc}
+use Prim.Native.Nat.{_+_, _-_, _≤_, suc}
 use native.Mathlib.Numerals.{add-one}
 use native.Mathlib.Omega.{arith}
 use denote.Ref.{now}
-use lib.ListN.{length, take, drop}
+use lib.ListN.{length}
 use borrow.Author.Needs.{needs}
 use Rattle.lists.specs.Tab.{over}
 use Rattle.lists.proofs.Parts.{length-cut}

@@ -1,7 +1,6 @@
 -- Written by tools/sizes from the text of size 64: edit that one, and run tools/sizes.
 -- `access::t16::words_at_row` meets its contract: the count is that of the row that is looked up.
 -- Assumes nothing.
-use native.Mathlib.Omega.{arith}
 use Rattle.places.proofs.Places.{size16}
 use Rattle.access.proofs.Answers.{index-within}
 use Rattle.access.proofs.Lookups.{row-range, looked-count}

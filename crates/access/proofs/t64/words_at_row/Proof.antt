@@ -1,6 +1,5 @@
 -- `access::t64::words_at_row` meets its contract: the count is that of the row that is looked up.
 -- Assumes nothing.
-use native.Mathlib.Omega.{arith}
 use Rattle.places.proofs.Places.{size64}
 use Rattle.access.proofs.Answers.{index-within}
 use Rattle.access.proofs.Lookups.{row-range, looked-count}

@@ -2,14 +2,11 @@
 -- `access::t8::look_up` meets its contract: lane and row are those of the index, and the value there is the one that
 -- is read.
 -- Assumes nothing.
-use mathlib.Core.Path.{_≡_, ap, _∙_}
+use mathlib.Core.Path.{_∙_}
 use Prim.Native.Nat.{_<_}
 use native.Mathlib.Omega.{arith}
 use denote.Ref.{now}
-use lib.ListN.{getD}
 use borrow.Author.Needs.{needs}
-use Rattle.lists.specs.Tab.{tab}
-use Rattle.places.specs.Places.{lane, row}
 use Rattle.places.specs.Sizes.{t8}
 use Rattle.places.proofs.Places.{size8}
 use Rattle.access.specs.declared.t8.Single.the-variants.{Value, Refused}

@@ -6,7 +6,6 @@ use Prim.Native.Nat.{_+_, _-_, _^_, _<_}
 use native.Mathlib.Omega.{arith}
 use denote.Ref.{now}
 use lib.Bits.{bitOr, or-lt}
-use lib.ListN.{getD}
 use borrow.Author.Needs.{needs}
 use Rattle.lists.specs.Numbers.{Elements}
 use Rattle.lists.proofs.Tabs.{length-tab, getD-tab}

@@ -1,13 +1,12 @@
 -- `candidates::differences::steps_copy` meets its contract. The loop's invariant: the first r rows of words are those
 -- of the differences, row r starts at `start`, and the row before it at `before`.
 -- Assumes nothing.
-use mathlib.Core.Path.{_≡_, sym, ap, ap₂, _∙_}
-use Prim.Native.Nat.{_+_, _-_, _≤_}
+use mathlib.Core.Path.{sym, ap₂, _∙_}
+use Prim.Native.Nat.{_-_, _≤_}
 use native.Mathlib.Omega.{arith}
 use denote.Ref.{now}
-use lib.ListN.{length}
 use borrow.Author.Needs.{needs}
-use Rattle.places.specs.Sizes.{t64, lanes}
+use Rattle.places.specs.Sizes.{t64}
 use Rattle.places.proofs.Places.{size64}
 use Rattle.rows.specs.Rows.{subOf}
 use Rattle.rows.proofs.Blocks.{Starts, starts-first, starts-at, starts-room, starts-next}

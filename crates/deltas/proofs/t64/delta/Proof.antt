@@ -1,6 +1,6 @@
 -- `deltas::t64::delta` meets its contract: each refusal by its test, and the walk gives the block.
 -- Assumes nothing.
-use mathlib.Core.Path.{_≡_, refl}
+use mathlib.Core.Path.{refl}
 use native.Mathlib.Omega.{arith}
 use denote.Ref.{now}
 use borrow.Author.Needs.{needs}

@@ -1,7 +1,6 @@
 -- `side_of` tells the side by whether the number is 0.
 -- Assumes nothing.
 use borrow.Author.Tests.{eq-eqb, ne-eqb}
-use borrow.Author.Needs.{needs}
 use Rattle.exports.proofs.machine.side_of.Statement.{statement}
 use Rattle.exports.proofs.machine.side_of.Tie as tie
 

@@ -1,8 +1,8 @@
 -- `told` tells the state number by number.
 -- Assumes nothing.
-use mathlib.Core.Path.{_≡_, sym, ap, _∙_}
+use mathlib.Core.Path.{ap, _∙_}
 use lib.ListN.{getD}
-use Rattle.exports.specs.MachineHanded.{stageOf, stateOf}
+use Rattle.exports.specs.MachineHanded.{stageOf}
 use borrow.Author.Needs.{needs}
 use Rattle.exports.proofs.machine.told.Statement.{statement}
 use Rattle.exports.proofs.machine.told.Tie as tie

@@ -1,6 +1,6 @@
 -- `wish_side` goes by the wish: of a read it is the number of what the read says.
 -- Assumes nothing.
-use mathlib.Core.Path.{_≡_, sym, ap, _∙_}
+use mathlib.Core.Path.{sym, ap, _∙_}
 use Rattle.exports.specs.MachineHanded.{wishSide}
 use borrow.Author.Needs.{needs}
 use Rattle.exports.proofs.machine.wish_side.Statement.{statement}

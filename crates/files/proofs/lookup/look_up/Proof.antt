@@ -1,12 +1,11 @@
 -- `files::lookup::look_up` meets its contract: lane and row are those of the place.
 -- Assumes nothing.
-use mathlib.Core.Path.{_≡_, sym, ap, _∙_, subst}
+use mathlib.Core.Path.{sym, subst}
 use Prim.Native.Nat.{_%_, _<_}
 use native.Mathlib.Omega.{arith}
 use denote.Ref.{now}
 use borrow.Author.Needs.{needs}
-use Rattle.places.specs.Places.{lane, row}
-use Rattle.places.specs.Sizes.{t64}
+use Rattle.places.specs.Places.{lane}
 use Rattle.places.proofs.Places.{size64, row-lt}
 use Rattle.packing.specs.Packed.{valueAt}
 use Rattle.access.specs.Counts.{countAt}

@@ -1,12 +1,7 @@
 -- `listing::text::put_change` meets its contract: three numbers one behind another.
 -- Assumes nothing.
-use mathlib.Core.Path.{_≡_}
-use Prim.Native.Nat.{_+_}
 use native.Mathlib.Omega.{arith}
-use denote.Ref.{now}
-use lib.ListN.{length}
-use Rattle.listing.specs.Text.{fieldOf, changeLine}
-use Rattle.listing.proofs.Lines.{Laid, field-most, change-laid}
+use Rattle.listing.proofs.Lines.{field-most, change-laid}
 use borrow.Author.Needs.{needs}
 use Rattle.listing.proofs.text.put_change.Statement.{statement}
 use Rattle.listing.proofs.text.put_change.Tie as tie

@@ -1,6 +1,5 @@
 -- `listing::text::put_last` meets its contract: the line of the row counts, and behind it that of the differences.
 -- Assumes nothing.
-use mathlib.Core.Path.{_≡_, sym, ap, ap₂, _∙_}
 use denote.Ref.{now}
 use native.Mathlib.Omega.{arith}
 use Rattle.listing.proofs.Lines.{rows-most, last-laid}

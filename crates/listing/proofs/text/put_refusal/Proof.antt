@@ -1,6 +1,5 @@
 -- `listing::text::put_refusal` meets its contract: its words and two numbers one behind another.
 -- Assumes nothing.
-use mathlib.Core.Path.{_≡_, sym, ap, ap₂, _∙_}
 use denote.Ref.{now}
 use native.Mathlib.Omega.{arith}
 use Rattle.listing.proofs.Lines.{refused-most, field-most, refusal-laid}

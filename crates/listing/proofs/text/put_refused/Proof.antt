@@ -1,8 +1,7 @@
 -- `listing::text::put_refused` meets its contract, by the side.
 -- Assumes nothing.
-use mathlib.Core.Path.{_≡_, sym, ap, ap₂, _∙_}
+use mathlib.Core.Path.{sym, ap, _∙_}
 use denote.Ref.{now}
-use Prim.Native.Nat.{_+_}
 use lib.ListN.{length}
 use Rattle.lists.specs.Tab.{over}
 use Rattle.listing.specs.Text.{refusedText}

@@ -1,6 +1,5 @@
 -- `listing::text::put_rows` meets its contract, by whether the counts differ.
 -- Assumes nothing.
-use mathlib.Core.Path.{_≡_, sym, ap, ap₂, _∙_}
 use denote.Ref.{now}
 use native.Mathlib.Omega.{arith}
 use Rattle.listing.proofs.Lines.{field-most, rows-none, rows-laid}

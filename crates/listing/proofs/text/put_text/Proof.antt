@@ -1,6 +1,5 @@
 -- `listing::text::put_text` meets its contract: the bytes below i are laid.
 -- Assumes nothing.
-use mathlib.Core.List.{[]}
 use mathlib.Core.Path.{_≡_, sym, ap, _∙_}
 use Prim.Native.Nat.{_+_, _-_, _≤_}
 use native.Mathlib.Omega.{arith}

@@ -6,7 +6,7 @@ use borrow.Author.Needs.{needs}
 use Rattle.places.specs.Answers.{numberOf}
 use Rattle.places.proofs.Answers.{by-refusal, by-done, number-done}
 use Rattle.plain.specs.Calls.{plainUnpackLeaves}
-use Rattle.plain.proofs.Answers.{Blocks, taken}
+use Rattle.plain.proofs.Answers.{taken}
 use Rattle.plain.proofs.t64.unpack.Statement.{statement}
 use Rattle.plain.proofs.t64.unpack.Tie as tie
 

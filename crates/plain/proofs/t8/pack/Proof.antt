@@ -7,7 +7,7 @@ use borrow.Author.Needs.{needs}
 use Rattle.places.specs.Answers.{numberOf}
 use Rattle.places.proofs.Answers.{by-refusal, by-done, number-done}
 use Rattle.plain.specs.Calls.{plainPackLeaves}
-use Rattle.plain.proofs.Answers.{Blocks, taken}
+use Rattle.plain.proofs.Answers.{taken}
 use Rattle.plain.proofs.t8.pack.Statement.{statement}
 use Rattle.plain.proofs.t8.pack.Tie as tie
 

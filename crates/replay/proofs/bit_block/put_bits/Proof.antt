@@ -1,7 +1,6 @@
 -- `replay::bit_block::put_bits` is safe and ends.
 -- Assumes nothing.
 use Prim.Native.Nat.{_-_, _≤_}
-use native.Mathlib.Omega.{arith}
 use borrow.Author.Needs.{needs}
 use Rattle.replay.proofs.bit_block.put_bits.Statement.{statement}
 use Rattle.replay.proofs.bit_block.put_bits.Tie as tie
