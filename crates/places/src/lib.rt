@@ -2,6 +2,7 @@
 //
 // From the crate's src/lib.rs (the order list, T and LANES), src/transpose.rs, and the function index of
 // src/macros.rs. What is the same at all four element sizes stands here; each size has a module of its own.
+#![tactic(auto)]
 
 pub mod t16;
 pub mod t32;

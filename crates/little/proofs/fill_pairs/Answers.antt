@@ -1,0 +1,33 @@
+-- `little::fill_pairs` meets its contract. The loop's invariant: the first i numbers are read.
+-- Assumes nothing.
+use mathlib.Core.Path.{sym}
+use Prim.Native.Nat.{◌*◌, ◌-◌, ◌≤◌, zero-le}
+use native.Mathlib.Nat.{zero-add}
+use native.Mathlib.Omega.{arith}
+use lib.ListN.{length}
+use borrow.Author.Rules.{rules}
+use Rattle.lists.proofs.Tabs.{Written, written_none, written_next, written-length, written_all}
+use Rattle.little.specs.Little.{little, numbers_of}
+use Rattle.little.proofs.fill_pairs.Goals as goal
+
+pub loop-i-init : goal.loop-i-init
+loop-i-init c = (zero-le, written_none zero-le)
+
+pub overflow_mul-i : goal.overflow_mul-i
+overflow_mul-i c = omega (arith, written-length c.loop-i.invariant.1)
+
+pub pair_at-requires : goal.pair_at-requires
+pair_at-requires c = omega (arith, written-length c.loop-i.invariant.1)
+
+pub loop-i-smaller : goal.loop-i-smaller
+loop-i-smaller c = omega (arith, written-length c.loop-i.invariant.1)
+
+pub loop-i-preserved : goal.loop-i-preserved
+loop-i-preserved c =
+    let inv = c.loop-i.invariant in
+    (omega (arith, written-length inv.1), written_next inv.1 _ _ (omega (arith, written-length inv.1)) (sym (zero-add _)) c.pair_at.ensures)
+
+pub returns : goal.returns
+unfolding numbers_of
+returns c =
+    written_all c.loop-i.invariant.1 _ (omega (arith, written-length c.loop-i.invariant.1)) (omega arith)

@@ -1,0 +1,17 @@
+-- `little::put_pair` meets its contract: by the test that the bytes fit.
+-- Assumes nothing.
+use mathlib.Core.Path.{sym, ◌∙◌}
+use borrow.Author.Rules.{rules}
+use borrow.Author.Tests.{leb-true}
+use Rattle.little.proofs.Bytes.{put_there, put_missing}
+use Rattle.little.proofs.put_pair.Goals as goal
+
+pub put_pair_at-requires : goal.put_pair_at-requires
+put_pair_at-requires c = leb-true _ _ (sym c.within.ensures ∙ c.if-within.true)
+
+pub returns-then-within : goal.returns-then-within
+returns-then-within c =
+    c.put_pair_at.ensures ∙ sym (put_there _ _ _ _ (sym c.within.ensures ∙ c.if-within.true))
+
+pub returns-else-within : goal.returns-else-within
+returns-else-within c = sym (put_missing _ _ _ _ (sym c.within.ensures ∙ c.if-within.false))
