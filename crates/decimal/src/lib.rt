@@ -1,6 +1,8 @@
 // Numbers in decimal (ours, for people with files and a shell): a text of digits read as a u64, and a u64 laid out as
 // text. The two are inverse: the text of a number is read as that number, and a text that is read, and has no needless
 // zero at its front, is the text of what was read. Nothing else is taken: no sign, no space, no point.
+#![tactic(auto)]
+
 ghost use Rattle.std.specs.Prelude.{◌≡◌, ◌+◌, ◌≤◌, length};
 ghost use Rattle.lists.specs.Search.{first_beyond};
 ghost use Rattle.lists.specs.Tab.{over};

@@ -2,6 +2,8 @@
 // part of the crate fastlanes; column files and case streams are made of such numbers.
 //
 // A number is read and written by halves: the compiler makes one load and one store of it.
+#![tactic(auto)]
+
 ghost use Rattle.std.specs.Prelude.{◌≡◌, ◌+◌, ◌*◌, ◌≤◌, ◌<◌, leb, length};
 ghost use Rattle.lists.specs.Tab.{over};
 ghost use Rattle.little.specs.Little.{little, little_or, numbers_of, read_leaves, bytes_of, all_bytes, put_leaves, write_leaves};

@@ -1,5 +1,6 @@
 // What a machine may wish for that decides what is read of two files and what is written, and does neither: a program
 // grants its wishes one after another, and shows it what was read.
+#![tactic(auto)]
 
 // One of the two files.
 #[derive(Drop)]

@@ -1,13 +1,9 @@
 -- `little::fill_pairs` meets its contract. The loop's invariant: the first i numbers are read.
 -- Assumes nothing.
-use mathlib.Core.Path.{sym}
-use Prim.Native.Nat.{◌*◌, ◌-◌, ◌≤◌, zero-le}
-use native.Mathlib.Nat.{zero-add}
-use native.Mathlib.Omega.{arith}
+use Prim.Native.Nat.{◌*◌, ◌-◌, ◌≤◌}
 use lib.ListN.{length}
-use borrow.Author.Rules.{rules}
-use Rattle.lists.proofs.Tabs.{Written, written_none, written_next, written-length, written_all}
-use Rattle.little.specs.Little.{little, numbers_of}
+use Rattle.lists.proofs.Tabs.{Written}
+use Rattle.little.specs.Little.{little}
 use Rattle.little.proofs.fill_pairs.Given as goal
 
 abbrev pub invariant-loop-i : goal.invariant-loop-i

@@ -1,13 +1,11 @@
 -- `little::fill_words` meets its contract. The loop's invariant: the first i numbers are read.
 -- Assumes nothing.
 use mathlib.Core.Path.{sym}
-use Prim.Native.Nat.{◌*◌, ◌-◌, ◌≤◌, zero-le}
+use Prim.Native.Nat.{zero-le}
 use native.Mathlib.Nat.{zero-add}
 use native.Mathlib.Omega.{arith}
-use lib.ListN.{length}
-use borrow.Author.Rules.{rules}
-use Rattle.lists.proofs.Tabs.{Written, written_none, written_next, written-length, written_all}
-use Rattle.little.specs.Little.{little, numbers_of}
+use Rattle.lists.proofs.Tabs.{written_none, written_next, written-length, written_all}
+use Rattle.little.specs.Little.{numbers_of}
 use Rattle.little.proofs.fill_words.Goals as goal
 
 pub loop-i-init : goal.loop-i-init

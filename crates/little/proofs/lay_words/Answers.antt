@@ -1,10 +1,7 @@
 -- `little::lay_words` meets its contract. The loop's invariant: the bytes of the first i numbers are laid down.
 -- Assumes nothing.
-use Prim.Native.Nat.{◌-◌}
 use native.Mathlib.Omega.{arith}
-use lib.ListN.{length}
-use borrow.Author.Rules.{rules}
-use Rattle.little.proofs.Bytes.{Laid, laid_none, laid_next, laid_length, laid_all}
+use Rattle.little.proofs.Bytes.{laid_none, laid_next, laid_length, laid_all}
 use Rattle.little.proofs.lay_words.Goals as goal
 
 pub loop-i-init : goal.loop-i-init

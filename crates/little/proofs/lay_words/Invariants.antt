@@ -1,10 +1,8 @@
 -- `little::lay_words` meets its contract. The loop's invariant: the bytes of the first i numbers are laid down.
 -- Assumes nothing.
 use Prim.Native.Nat.{◌-◌}
-use native.Mathlib.Omega.{arith}
 use lib.ListN.{length}
-use borrow.Author.Rules.{rules}
-use Rattle.little.proofs.Bytes.{Laid, laid_none, laid_next, laid_length, laid_all}
+use Rattle.little.proofs.Bytes.{Laid}
 use Rattle.little.proofs.lay_words.Given as goal
 
 abbrev pub invariant-loop-i : goal.invariant-loop-i

@@ -1,7 +1,6 @@
 -- `little::pair` meets its contract: by the test that the bytes are there.
 -- Assumes nothing.
 use mathlib.Core.Path.{sym, ◌∙◌}
-use borrow.Author.Rules.{rules}
 use borrow.Author.Tests.{leb-true}
 use Rattle.little.proofs.Little.{little_there, little_missing}
 use Rattle.little.proofs.pair.Goals as goal

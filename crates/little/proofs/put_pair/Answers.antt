@@ -1,7 +1,6 @@
 -- `little::put_pair` meets its contract: by the test that the bytes fit.
 -- Assumes nothing.
 use mathlib.Core.Path.{sym, ◌∙◌}
-use borrow.Author.Rules.{rules}
 use borrow.Author.Tests.{leb-true}
 use Rattle.little.proofs.Bytes.{put_there, put_missing}
 use Rattle.little.proofs.put_pair.Goals as goal

@@ -2,7 +2,6 @@
 -- Assumes nothing.
 use native.Mathlib.Omega.{arith}
 use lib.ListN.{length-set}
-use borrow.Author.Rules.{rules}
 use Rattle.little.proofs.Bytes.{put_two}
 use Rattle.little.proofs.put_pair_at.Goals as goal
 

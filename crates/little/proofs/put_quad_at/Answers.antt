@@ -1,6 +1,5 @@
 -- `little::put_quad_at` meets its contract: by its two halves.
 -- Assumes nothing.
-use borrow.Author.Rules.{rules}
 use Rattle.little.proofs.Bytes.{put_halves}
 use Rattle.little.proofs.put_quad_at.Goals as goal
 

@@ -2,7 +2,6 @@
 -- Assumes nothing.
 use mathlib.Core.Path.{sym, ◌∙◌}
 use native.Mathlib.Omega.{arith}
-use borrow.Author.Rules.{rules}
 use Rattle.little.proofs.Little.{read_all, read_none}
 use Rattle.little.proofs.read_words.Goals as goal
 

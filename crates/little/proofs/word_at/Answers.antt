@@ -3,7 +3,6 @@
 use mathlib.Core.Path.{ap₂, ◌∙◌}
 use Prim.Native.Nat.{◌+◌, ◌*◌}
 use Rattle.little.proofs.Little.{little_eight}
-use borrow.Author.Rules.{rules}
 use Rattle.little.proofs.word_at.Goals as goal
 
 pub returns : goal.returns
