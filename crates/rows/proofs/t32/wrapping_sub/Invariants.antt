@@ -1,0 +1,14 @@
+-- Written by tools/sizes from the text of size 64: edit that one, and run tools/sizes.
+-- `rows::t32::wrapping_sub` meets its contract. The loop's invariant: the first l values are differences.
+-- Assumes nothing.
+use Rattle.std.proofs.Common.{◌+◌, ◌-◌, ◌%◌, ◌^◌, ◌≤◌, get_or}
+use Rattle.lists.proofs.Tabs.{Written}
+use Rattle.places.specs.Sizes.{t32, lanes}
+use Rattle.rows.proofs.t32.wrapping_sub.Given as goal
+
+abbrev pub invariant-loop-l : goal.invariant-loop-l
+invariant-loop-l vars =
+    (vars.l ≤ lanes t32) × Written 0 vars.l (λ l. (get_or vars.initial.z l 0 + (2 ^ t32 - get_or vars.y l 0)) % 2 ^ t32) vars.initial.z vars.z
+
+abbrev pub decreases-loop-l : goal.decreases-loop-l
+decreases-loop-l l = lanes t32 - l.l

@@ -1,0 +1,30 @@
+-- `rows::t64::wrapping_sub` meets its contract. The loop's invariant: the first l values are differences.
+-- Assumes nothing.
+use Rattle.std.proofs.Common.{◌≡◌, ◌^◌, length, get_or, sym, ◌∙◌, zero-le, zero-add, arith, w64, Fits, rules}
+use Rattle.lists.specs.Numbers.{minus}
+use Rattle.lists.proofs.Tabs.{written_none, written_later, written_next, written_all}
+use Rattle.places.specs.Sizes.{t64, lanes}
+use Rattle.rows.specs.Rows.{sub_of}
+use Rattle.rows.proofs.Rows.{sub_wraps}
+use Rattle.rows.proofs.t64.wrapping_sub.Goals as goal
+
+pub loop-l-init : goal.loop-l-init
+loop-l-init c = (search rules, written_none zero-le)
+
+pub loop-l-preserved : goal.loop-l-preserved
+loop-l-preserved c =
+    let before = c.loop-l.invariant.1 in
+    let l = c.loop-l.l in
+    let x = c.args.x in
+    let long : length x ≡ lanes t64 = search rules in
+    let own : get_or c.loop-l.z l 0 ≡ get_or x l 0 = written_later before l 0 (omega arith) in
+    let small : Fits w64 (get_or c.args.y l 0) = search rules in
+    let result : Fits w64 c.wrapping_sub_u64.result = search rules in (
+      omega arith,
+      written_next before _ _ (omega arith) (sym (zero-add l))
+          (sub_wraps (2 ^ t64) (get_or x l 0) _ _ small.fits result.fits (c.wrapping_sub_u64.ensures.value ∙ own)),
+    )
+
+pub returns : goal.returns
+unfolding sub_of minus
+returns c = written_all c.loop-l.invariant.1 (lanes t64) (omega arith) (search rules)

@@ -1,0 +1,14 @@
+-- Written by tools/sizes from the text of size 64: edit that one, and run tools/sizes.
+-- `rows::t8::load` meets its contract. The loop's invariant: the first l values are read.
+-- Assumes nothing.
+use Rattle.std.proofs.Common.{◌≡◌, ◌-◌, ◌≤◌, length, get_or}
+use Rattle.lists.proofs.Tabs.{Written}
+use Rattle.places.specs.Sizes.{t8, lanes}
+use Rattle.rows.proofs.t8.load.Given as goal
+
+abbrev pub invariant-loop-l : goal.invariant-loop-l
+invariant-loop-l vars =
+    (vars.l ≤ lanes t8) × (length vars.initial.x ≡ lanes t8) × Written 0 vars.l (λ l. get_or vars.source l 0) vars.initial.x vars.x
+
+abbrev pub decreases-loop-l : goal.decreases-loop-l
+decreases-loop-l l = lanes t8 - l.l
