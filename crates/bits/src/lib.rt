@@ -9,6 +9,8 @@
 // What is the same at all four element sizes stands here, and the transpose of each size has a module of its own. The
 // inverse is asked for at T 64 only, so untranspose_bits stands here and not in the modules, which are one text for all
 // sizes.
+#![tactic(auto)]
+
 pub mod t16;
 pub mod t32;
 pub mod t64;

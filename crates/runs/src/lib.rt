@@ -2,6 +2,8 @@
 //
 // What is the same at all four element sizes stands here: the two walks over the indices by which decode tests
 // them. Each size has a module of its own.
+#![tactic(auto)]
+
 pub mod t16;
 pub mod t32;
 pub mod t64;

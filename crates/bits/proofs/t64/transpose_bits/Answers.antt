@@ -1,0 +1,13 @@
+-- `bits::t64::transpose_bits` meets its contract: its two walks are the transpose.
+-- Assumes nothing.
+use mathlib.Core.Path.{ap, ◌∙◌}
+use Rattle.places.proofs.Places.{size64}
+use Rattle.bits.specs.InnerSteps.{gathers_of, scatter_start}
+use Rattle.bits.proofs.Walks.{transpose-walks}
+use Rattle.bits.proofs.t64.transpose_bits.Goals as goal
+
+pub returns : goal.returns
+returns c =
+    c.scatter.ensures
+    ∙ ap (gathers_of scatter_start 8) c.group.ensures
+    ∙ transpose-walks size64 c.args.block
