@@ -1,0 +1,15 @@
+-- Written by tools/sizes from the text of size 64: edit that one, and run tools/sizes.
+-- `packing::t8::pack_copy` meets its contract. The loop's invariant: the first r rows of words are copied, and row r
+-- starts at `start`.
+-- Assumes nothing.
+use Prim.Native.Nat.{◌-◌, ◌≤◌}
+use Rattle.places.specs.Sizes.{t8}
+use Rattle.rows.proofs.Blocks.{Starts}
+use Rattle.packing.proofs.Walks.{Filled}
+use Rattle.packing.proofs.t8.pack_copy.Given as goal
+
+abbrev pub invariant-loop-r : goal.invariant-loop-r
+invariant-loop-r l = (l.r ≤ t8) × Starts l.r l.start × Filled t8 t8 l.values l.r l.packed
+
+abbrev pub decreases-loop-r : goal.decreases-loop-r
+decreases-loop-r l = t8 - l.r

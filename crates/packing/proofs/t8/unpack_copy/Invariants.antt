@@ -1,0 +1,16 @@
+-- Written by tools/sizes from the text of size 64: edit that one, and run tools/sizes.
+-- `packing::t8::unpack_copy` meets its contract. The loop's invariant: the first r rows hold their values, and row r
+-- starts at `start`.
+-- Assumes nothing.
+use Prim.Native.Nat.{◌-◌, ◌≤◌}
+use Rattle.places.specs.Sizes.{t8}
+use Rattle.rows.proofs.Blocks.{Laid}
+use Rattle.rows.proofs.Blocks.{Starts}
+use Rattle.packing.specs.Packed.{value_at}
+use Rattle.packing.proofs.t8.unpack_copy.Given as goal
+
+abbrev pub invariant-loop-r : goal.invariant-loop-r
+invariant-loop-r l = (l.r ≤ t8) × Starts l.r l.start × Laid t8 l.r (value_at t8 t8 l.packed) l.values
+
+abbrev pub decreases-loop-r : goal.decreases-loop-r
+decreases-loop-r l = t8 - l.r

@@ -1,0 +1,24 @@
+-- Written by tools/sizes from the text of size 64: edit that one, and run tools/sizes.
+-- `packing::t8::unpack_split` meets its contract. The loops' invariants: the first rows hold their values, and the
+-- walk stands where the next one begins.
+-- Assumes nothing.
+use Prim.Native.Nat.{◌+◌, ◌-◌, ◌*◌, ◌/◌, ◌≤◌}
+use Rattle.places.specs.Sizes.{t8}
+use Rattle.rows.proofs.Blocks.{Laid}
+use Rattle.packing.specs.Packed.{value_at}
+use Rattle.packing.proofs.Walks.{At}
+use Rattle.packing.proofs.t8.unpack_split.Given as goal
+
+abbrev pub invariant-loop-i : goal.invariant-loop-i
+invariant-loop-i l =
+    (l.i ≤ 8) × At t8 l.width (l.o * 8 + l.i) l.s l.word × Laid t8 (l.o * 8 + l.i) (value_at t8 l.width l.packed) l.values
+
+abbrev pub decreases-loop-i : goal.decreases-loop-i
+decreases-loop-i l = 8 - l.i
+
+abbrev pub invariant-loop-o : goal.invariant-loop-o
+invariant-loop-o l =
+    (l.o ≤ t8 / 8) × At t8 l.width (l.o * 8) l.s l.word × Laid t8 (l.o * 8) (value_at t8 l.width l.packed) l.values
+
+abbrev pub decreases-loop-o : goal.decreases-loop-o
+decreases-loop-o l = t8 / 8 - l.o
