@@ -25,7 +25,7 @@ pub type Words = u64;
 pub const NO_COUNT: Words = u64::MAX;
 
 // What access by a list gives: the words of all its lookups, or the refusal.
-#[derive(Drop)]
+#[derive(Clone, Copy)]
 pub enum Listed {
     Words(Words),
     Refused(Answer),
@@ -55,7 +55,7 @@ impl Listed {
 
 // What access by a list under a budget gives: how many lookups of the list's front it answered and how many words these
 // read, or the refusal.
-#[derive(Drop)]
+#[derive(Clone, Copy)]
 pub enum Afforded {
     Front(usize, Words),
     Refused(Answer),

@@ -27,7 +27,7 @@ const LANES: usize = 64;
 const BITS: u8 = 16;
 
 // The value at one place and how many packed words its bits stand in, or the refusal.
-#[derive(Drop)]
+#[derive(Clone, Copy)]
 pub enum Single {
     Value(u16, Words),
     Refused(Answer),

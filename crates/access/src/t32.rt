@@ -27,7 +27,7 @@ const LANES: usize = 32;
 const BITS: u8 = 32;
 
 // The value at one place and how many packed words its bits stand in, or the refusal.
-#[derive(Drop)]
+#[derive(Clone, Copy)]
 pub enum Single {
     Value(u32, Words),
     Refused(Answer),

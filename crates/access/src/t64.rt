@@ -26,7 +26,7 @@ const LANES: usize = 16;
 const BITS: u8 = 64;
 
 // The value at one place and how many packed words its bits stand in, or the refusal.
-#[derive(Drop)]
+#[derive(Clone, Copy)]
 pub enum Single {
     Value(u64, Words),
     Refused(Answer),

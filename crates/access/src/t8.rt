@@ -27,7 +27,7 @@ const LANES: usize = 128;
 const BITS: u8 = 8;
 
 // The value at one place and how many packed words its bits stand in, or the refusal.
-#[derive(Drop)]
+#[derive(Clone, Copy)]
 pub enum Single {
     Value(u8, Words),
     Refused(Answer),

@@ -15,7 +15,7 @@ use contents::{Entry, FileAnswer, contents_length, edition, entry_or, has_right_
 use little::pair;
 
 // A body of a file: its number, where it begins, and its entry.
-#[derive(Drop)]
+#[derive(Clone, Copy)]
 pub struct Body {
     pub number: usize,
     pub at: usize,

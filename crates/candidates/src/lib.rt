@@ -32,7 +32,7 @@ use std::num::wrapping_sub_u64;
 const T: usize = 64;
 
 // The entry of a block that was laid down, with its smallest and its largest number, or the refusal.
-#[derive(Drop)]
+#[derive(Clone, Copy)]
 pub enum Laid {
     As(Entry, Range),
     Refused(FileAnswer),
@@ -72,7 +72,7 @@ impl Laid {
 
 // What is measured of a block: the entry of the candidate that is chosen, the smallest and the largest number, and the
 // width of the differences, which an entry of another kind does not say.
-#[derive(Drop)]
+#[derive(Clone, Copy)]
 pub struct Measured {
     pub entry: Entry,
     pub range: Range,
@@ -80,7 +80,7 @@ pub struct Measured {
 }
 
 // The lowest number, which is the frame's reference, and the widths of the three candidates.
-#[derive(Drop)]
+#[derive(Clone, Copy)]
 struct Measures {
     low: u64,
     plain: usize,

@@ -20,7 +20,7 @@ use files::{block_from, body_from, check_runs};
 use little::word;
 
 // What was seen of a block: whether its range is the true one, and whether it is as our writer would write it.
-#[derive(Drop)]
+#[derive(Clone, Copy)]
 struct Seen {
     ranged: bool,
     ours: bool,

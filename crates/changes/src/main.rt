@@ -48,14 +48,14 @@ fn opened(name: &[u8]) -> i32 {
 }
 
 // How many bytes the buffers of one file hold,
-#[derive(Drop)]
+#[derive(Clone, Copy)]
 struct Filled {
     front: usize,
     body: usize,
 }
 
 // and those of both; and whether the run goes on.
-#[derive(Drop)]
+#[derive(Clone, Copy)]
 struct Held {
     left: Filled,
     right: Filled,
@@ -63,7 +63,7 @@ struct Held {
 }
 
 // A turn of the machine, and what the buffers hold then.
-#[derive(Drop)]
+#[derive(Clone, Copy)]
 struct Now {
     turn: Turn,
     held: Held,

@@ -12,7 +12,7 @@ use contents::{FileAnswer, edition, range_or};
 use little::pair;
 
 // A row whose numbers differ.
-#[derive(Drop)]
+#[derive(Clone, Copy)]
 pub struct Change {
     pub row: u64,
     pub left: u64,
@@ -20,7 +20,7 @@ pub struct Change {
 }
 
 // How many places of two blocks differ, or the refusal.
-#[derive(Drop)]
+#[derive(Clone, Copy)]
 pub enum Compared {
     Places(usize),
     Refused(FileAnswer),

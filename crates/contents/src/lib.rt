@@ -13,7 +13,7 @@ ghost use Rattle.contents.specs.Bytes.{head_leaves, first_leaves, entry_leaves};
 use little::{pair, put_pair, put_quad, put_word, quad, word};
 
 // What a call on a file answers: that it is done, or why it is refused.
-#[derive(Drop)]
+#[derive(Clone, Copy)]
 pub enum FileAnswer {
     Done,
     // a block or the room for places that is lent is not 1,024 long, or the numbers to be written are no whole blocks
@@ -82,7 +82,7 @@ impl FileAnswer {
 }
 
 // What the contents say of a block.
-#[derive(Drop)]
+#[derive(Clone, Copy)]
 pub struct Entry {
     pub kind: u8,
     pub width: u8,
@@ -101,7 +101,7 @@ impl Entry {
 }
 
 // What the contents say of the values of a block: the smallest and the largest.
-#[derive(Drop)]
+#[derive(Clone, Copy)]
 pub struct Range {
     pub smallest: u64,
     pub largest: u64,

@@ -10,7 +10,7 @@ ghost use Rattle.decimal.specs.Decimal.{digit_of, digits_of, text_of};
 ghost use Rattle.decimal.specs.Calls.{number_or, parsed_of, laid_of, lay_leaves};
 
 // What a text is read as: a number, or why it is none.
-#[derive(Drop)]
+#[derive(Clone, Copy)]
 pub enum Parsed {
     Number(u64),
     // there are no bytes

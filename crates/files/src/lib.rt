@@ -259,7 +259,7 @@ fn lay_numbered(file: &[u8], b: usize, output: &mut [u64]) -> FileAnswer
 
 // The value at a file row, with how many packed words its bits stand in where its block is of kind 0 or 1, and without
 // where it is of kind 2 or 3; or the refusal.
-#[derive(Drop)]
+#[derive(Clone, Copy)]
 pub enum Row {
     Counted(u64, Words),
     Uncounted(u64),

@@ -21,7 +21,7 @@ use places::order;
 use std::num::wrapping_add_u64;
 
 // A value, and how many words were read for it.
-#[derive(Drop)]
+#[derive(Clone, Copy)]
 pub struct Looked {
     pub value: u64,
     pub words: Words,

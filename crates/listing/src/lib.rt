@@ -26,7 +26,7 @@ use text::{put_change, put_last, put_refusal};
 use wishes::{Part, Side, Wish};
 
 // Where the machine is, named for what was wished for last.
-#[derive(Drop)]
+#[derive(Clone, Copy)]
 pub enum Stage {
     // the first four bytes of a file
     Head(Side),
@@ -45,14 +45,14 @@ pub enum Stage {
 }
 
 // How long a file is, and where the body of the block begins in it.
-#[derive(Drop)]
+#[derive(Clone, Copy)]
 pub struct Place {
     pub size: usize,
     pub at: usize,
 }
 
 // How far the machine is: the number of the block, where it is in both files, and how many rows before it differ.
-#[derive(Drop)]
+#[derive(Clone, Copy)]
 pub struct State {
     pub stage: Stage,
     pub number: usize,
@@ -62,7 +62,7 @@ pub struct State {
 }
 
 // Where the machine is, and what it wishes for.
-#[derive(Drop)]
+#[derive(Clone, Copy)]
 pub struct Turn {
     pub state: State,
     pub wish: Wish,

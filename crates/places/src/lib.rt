@@ -14,7 +14,7 @@ ghost use Rattle.places.specs.Answers.{number_of, place_of};
 ghost use Rattle.places.specs.Places as Places;
 
 // What a call answers: that it is done, or why it is refused.
-#[derive(Drop)]
+#[derive(Clone, Copy)]
 pub enum Answer {
     Done,
     // the width is above T

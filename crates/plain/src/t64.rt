@@ -15,7 +15,7 @@ const T: usize = 64;
 const LANES: usize = 16;
 
 // The value at one place and how many packed words its bits come from, or the refusal.
-#[derive(Drop)]
+#[derive(Clone, Copy)]
 pub enum Single {
     Value(u64, usize),
     Refused(Answer),

@@ -16,7 +16,7 @@ const T: usize = 8;
 const LANES: usize = 128;
 
 // The value at one place and how many packed words its bits come from, or the refusal.
-#[derive(Drop)]
+#[derive(Clone, Copy)]
 pub enum Single {
     Value(u8, usize),
     Refused(Answer),

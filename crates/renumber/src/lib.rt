@@ -40,7 +40,7 @@ use contents::{FileAnswer, Range, count, edition, put_entry, put_head, range_or}
 use files::{block_from, check_runs};
 
 // What a renumbering answers: what the file's own calls answer, or what is wrong with the lists.
-#[derive(Drop)]
+#[derive(Clone, Copy)]
 pub enum RenumberAnswer {
     // that it is done, a refusal of the file, or that the output is too short
     File(FileAnswer),
@@ -87,7 +87,7 @@ impl RenumberAnswer {
 }
 
 // The length of the file that was written and how many rows changed, or the refusal.
-#[derive(Drop)]
+#[derive(Clone, Copy)]
 pub enum Renumbered {
     Length(usize, usize),
     Refused(RenumberAnswer),
@@ -128,7 +128,7 @@ impl Renumbered {
 // What is found of a block, or of the blocks of a file: whether it passes, which is that no range is false and no number
 // taken; the lowest place or row that is taken, or the end of the block where none is; the bytes of what is to be
 // written; and how many numbers change.
-#[derive(Drop)]
+#[derive(Clone, Copy)]
 struct Found {
     passes: bool,
     taken: usize,

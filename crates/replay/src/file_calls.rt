@@ -16,7 +16,7 @@ use writer::Written;
 
 // What a call takes: for each buffer the bytes of an element, 0 where it takes no such buffer, and whether it takes
 // an index.
-#[derive(Drop)]
+#[derive(Clone, Copy)]
 struct Intake {
     a: usize,
     b: usize,

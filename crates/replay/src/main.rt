@@ -37,7 +37,7 @@ use stream::{Head, Step, Tally};
 use wire::{Beginning, read_head};
 
 // How the reading ended.
-#[derive(Drop)]
+#[derive(Clone, Copy)]
 enum Ending {
     // at a record's end, with the counts of all cases
     Good(Tally),

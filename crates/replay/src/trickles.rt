@@ -43,7 +43,7 @@ fn made(head: Head, fed: &mut [u8], numbers: &mut [u64], bytes: &mut [u8]) -> St
 }
 
 // What came of the start and of the chunks: the answer to the start, the bytes taken in all, and the state.
-#[derive(Drop)]
+#[derive(Clone, Copy)]
 struct Trickled {
     first: TrickleAnswer,
     taken: usize,

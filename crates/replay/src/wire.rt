@@ -12,7 +12,7 @@ use stream::narrow::{widen_u8, widen_u16, widen_u32};
 use stream::{Head, head_of};
 
 // What stands where a record may begin.
-#[derive(Drop)]
+#[derive(Clone, Copy)]
 pub enum Beginning {
     // nothing: the stream ends here
     End,

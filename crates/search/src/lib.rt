@@ -24,7 +24,7 @@ use rows::t64::{splat, store, wrapping_add};
 use std::num::{wrapping_add_u64, wrapping_sub_u64};
 
 // How many rows were listed and how many blocks were opened for them, or the refusal.
-#[derive(Drop)]
+#[derive(Clone, Copy)]
 pub enum Found {
     Rows(usize, usize),
     Refused(FileAnswer),

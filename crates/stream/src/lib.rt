@@ -16,7 +16,7 @@ use places::Answer;
 
 // The head of a record: the call, what is expected of it, what it takes besides the buffers, and how many elements
 // the buffers have.
-#[derive(Drop)]
+#[derive(Clone, Copy)]
 pub struct Head {
     pub op: u8,
     pub t: u8,
@@ -62,7 +62,7 @@ fn byte(x: u8) -> u64
 
 // What a call gave back besides the buffers. The reference and the index are fields that are expected of some calls and
 // that others take: of a call that takes one the reply has it as it was given.
-#[derive(Drop)]
+#[derive(Clone, Copy)]
 pub enum Reply {
     // nothing, since there is no such call
     Unknown,
@@ -142,7 +142,7 @@ impl Reply {
 }
 
 // What comes of a case.
-#[derive(Drop)]
+#[derive(Clone, Copy)]
 pub enum Step {
     // there is none: the stream is at its end
     End,
@@ -241,7 +241,7 @@ pub fn same_bytes(one: &[u8], other: &[u8], n: usize) -> bool
 
 // How many cases were replayed, how many of them differ, and of the first that differs its number and its call.
 // The counts are modulo 2^64.
-#[derive(Drop)]
+#[derive(Clone, Copy)]
 pub struct Tally {
     pub cases: u64,
     pub differ: u64,

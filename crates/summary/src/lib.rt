@@ -9,7 +9,7 @@ use bodies::range_of;
 use contents::entry_or;
 
 // A block in a line.
-#[derive(Drop)]
+#[derive(Clone, Copy)]
 pub struct Summary {
     pub kind: u8,
     pub width: u8,

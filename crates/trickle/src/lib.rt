@@ -15,7 +15,7 @@ use little::read_words;
 use packing::t64::unpack;
 
 // What start and ask answer: that the call is done, or why it is refused.
-#[derive(Drop)]
+#[derive(Clone, Copy)]
 pub enum TrickleAnswer {
     Done,
     // the width is above 64
@@ -54,7 +54,7 @@ impl TrickleAnswer {
 
 // A body on its way: its width, how many bytes of it are held, and room for the longest body. The bytes held stand at
 // the front of the room, and what stands behind them plays no part.
-#[derive(Drop)]
+#[derive(Clone, Copy)]
 pub struct State {
     pub width: usize,
     pub held: usize,
@@ -62,14 +62,14 @@ pub struct State {
 }
 
 // What start gives.
-#[derive(Drop)]
+#[derive(Clone, Copy)]
 pub struct Started {
     pub answer: TrickleAnswer,
     pub state: State,
 }
 
 // What feed gives: how many bytes of the chunk it took, and the state with them.
-#[derive(Drop)]
+#[derive(Clone, Copy)]
 pub struct Fed {
     pub taken: usize,
     pub state: State,

@@ -3,21 +3,21 @@
 #![tactic(auto)]
 
 // One of the two files.
-#[derive(Drop)]
+#[derive(Clone, Copy)]
 pub enum Side {
     Left,
     Right,
 }
 
 // Which of the two buffers of a file: one is for the front of the file, the other for a body.
-#[derive(Drop)]
+#[derive(Clone, Copy)]
 pub enum Part {
     Front,
     Body,
 }
 
 // What is to be done next.
-#[derive(Drop)]
+#[derive(Clone, Copy)]
 pub enum Wish {
     // of which file, into which of its buffers, from where on, and how many bytes are to be read
     Read(Side, Part, usize, usize),

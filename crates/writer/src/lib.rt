@@ -16,7 +16,7 @@ use candidates::{entry_with, lay_by, measure};
 use contents::{FileAnswer, Range, put_entry, put_head};
 
 // The length of the file that was written, or the refusal.
-#[derive(Drop)]
+#[derive(Clone, Copy)]
 pub enum Written {
     Length(usize),
     Refused(FileAnswer),

@@ -1,0 +1,29 @@
+-- Written by tools/sizes from the text of size 64: edit that one, and run tools/sizes.
+-- `access::t32::look_up` meets its contract: lane and row are those of the index, and the value there is the one that
+-- is read.
+-- Assumes nothing.
+use mathlib.Core.Path.{◌∙◌}
+use Prim.Native.Nat.{◌<◌}
+use native.Mathlib.Omega.{arith}
+use borrow.Author.Rules.{rules}
+use Rattle.places.specs.Sizes.{t32}
+use Rattle.places.proofs.Places.{size32}
+use Rattle.access.specs.declared.t32.Single.TheVariants.{Value, Refused}
+use Rattle.access.proofs.Answers.{index_value, index_past}
+use Rattle.access.proofs.Lookups.{looked_range, looked_value}
+use Rattle.access.proofs.t32.look_up.Goals as goal
+
+pub returns-then-index-ge1024 : goal.returns-then-index-ge1024
+returns-then-index-ge1024 c = index_past Value Refused _ _ _ c.if-index-ge1024.true
+
+pub read-requires : goal.read-requires
+read-requires c =
+    let range = looked_range size32 c.args.index (omega arith) _ c.row_at_place-r.ensures _ c.lane_at-l.ensures in
+    let both = (c.requires.width_le_t32, (c.requires.packed_len, range)) in record { width_le_t32 = both.0; packed_len = both.1.0; l_bound = both.1.1.0; r_lt_t32 = both.1.1.1 }
+
+pub returns : goal.returns
+returns c =
+    let h : c.args.index < 1024 = omega arith in
+    c.read.ensures
+    ∙ looked_value size32 _ h _ c.row_at_place-r.ensures _ c.lane_at-l.ensures Value c.args.width c.args.packed.now
+    ∙ index_value Value Refused t32 _ _ _ h

@@ -1,0 +1,12 @@
+-- Written by tools/sizes from the text of size 64: edit that one, and run tools/sizes.
+-- `access::t32::lookups::row_at_place` meets its contract: what is lent is the table.
+-- Assumes nothing.
+use mathlib.Core.Path.{ap, ◌∙◌}
+use lib.ListN.{get_or}
+use borrow.Author.Rules.{rules}
+use Rattle.access.specs.InnerLookups.{lent}
+use Rattle.access.proofs.t32.lookups.row_at_place.Goals as goal
+
+pub returns : goal.returns
+unfolding lent
+returns c = c.wide.ensures ∙ ap (λ l. get_or l c.args.place 0) c.requires.rows_value

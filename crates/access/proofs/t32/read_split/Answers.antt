@@ -1,0 +1,91 @@
+-- Written by tools/sizes from the text of size 64: edit that one, and run tools/sizes.
+-- `access::t32::read_split` meets its contract: by the laws of one word and of two.
+-- Assumes nothing.
+use mathlib.Core.Path.{◌≡◌, sym, ap, ap₂, ◌∙◌}
+use mathlib.Core.Logic.{⊎_elim}
+use Prim.Native.Nat.{ℕ, ◌+◌, ◌-◌, ◌*◌, ◌/◌, ◌%◌, ◌^◌, ◌≤◌, ◌<◌}
+use native.Mathlib.Nat.{mul-le-mul}
+use native.Mathlib.Omega.{arith}
+use lib.Bits.{bit_or}
+use lib.ListN.{length, get_or}
+use borrow.Author.Rules.{rules}
+use Rattle.lists.specs.Numbers.{Elements}
+use Rattle.places.specs.Sizes.{t32, lanes}
+use Rattle.places.proofs.Places.{size32}
+use Rattle.packing.specs.Packed.{word}
+use Rattle.packing.proofs.Turns.{word_room, first_word, next_word, value-one, value_two}
+use Rattle.access.specs.declared.t32.Single.TheVariants.{Value}
+use Rattle.access.proofs.Counts.{words-one, words_two}
+use Rattle.access.proofs.t32.read_split.Goals as goal
+use Rattle.access.proofs.t32.read_split.Goals.{Start}
+
+-- the bit at which the value begins is small
+bit_le : (c : Start) → c.args.r * c.args.width ≤ t32 * t32
+bit_le c = mul-le-mul {n₂ = t32} {m₂ = t32} (omega arith) (omega arith)
+
+-- the word in which it begins, and the next one, are words of the packed block
+first-in : (c : Start) → lanes t32 * (c.args.r * c.args.width / t32) + c.args.l < length c.args.packed.now
+first-in c =
+    let room = word_room t32 c.args.width _ (first_word size32 c.args.width c.args.r c.requires.r_lt_t32 c.requires.width_nonzero.0) in
+    omega arith
+
+next-in : (c : Start) → t32 < c.args.r * c.args.width % t32 + c.args.width
+    → lanes t32 * (c.args.r * c.args.width / t32) + c.args.l + lanes t32 < length c.args.packed.now
+next-in c over =
+    let room = word_room t32 c.args.width _ (next_word size32 c.args.width c.args.r c.requires.r_lt_t32 c.requires.width_nonzero.0 over) in
+    omega arith
+
+-- LANES places on from a word of a lane the lane's next word stands
+next-at : (word l : ℕ) → lanes t32 * word + l + lanes t32 ≡ lanes t32 * (word + 1) + l
+next-at word l = omega arith
+
+pub overflow_mul-bit : goal.overflow_mul-bit
+overflow_mul-bit c = omega (arith, bit_le (goal.at.overflow_mul-bit c).Start)
+
+pub overflow_mul-at : goal.overflow_mul-at
+overflow_mul-at c = omega (arith, bit_le (goal.at.overflow_mul-at c).Start)
+
+pub overflow_add-at : goal.overflow_add-at
+overflow_add-at c = omega (arith, bit_le (goal.at.overflow_add-at c).Start)
+
+-- sizes: not at t8
+pub offset_bounds-packed-at : goal.offset_bounds-packed-at
+offset_bounds-packed-at c = omega (arith, bit_le (goal.at.offset_bounds-packed-at c).Start)
+
+-- sizes: end
+pub bounds-packed-at : goal.bounds-packed-at
+bounds-packed-at c = first-in (goal.at.bounds-packed-at c).Start
+
+pub overflow_add-at-then-s-width-gt-BITS : goal.overflow_add-at-then-s-width-gt-BITS
+overflow_add-at-then-s-width-gt-BITS c = omega (arith, bit_le (goal.at.overflow_add-at-then-s-width-gt-BITS c).Start)
+
+-- sizes: not at t8
+pub offset_bounds-packed-at-then-s-width-gt-BITS : goal.offset_bounds-packed-at-then-s-width-gt-BITS
+offset_bounds-packed-at-then-s-width-gt-BITS c = omega (arith, bit_le (goal.at.offset_bounds-packed-at-then-s-width-gt-BITS c).Start)
+
+-- sizes: end
+pub bounds-packed-at-then-s-width-gt-BITS : goal.bounds-packed-at-then-s-width-gt-BITS
+bounds-packed-at-then-s-width-gt-BITS c = next-in (goal.at.bounds-packed-at-then-s-width-gt-BITS c).Start c.if-s-width-gt-BITS.true
+
+pub returns : goal.returns
+unfolding word
+returns c =
+    let w = c.args.width in
+    let r = c.args.r in
+    let packed = c.args.packed.now in
+    let small : Elements t32 packed = λ i. omega (arith, c.type_inv.packed i) in
+    let some : w ≡ 0 → ⊥ = λ e. omega (arith, c.requires.width_nonzero.0) in
+    ⊎_elim
+    (λ two.
+    ap₂ Value
+    (c.cut.ensures
+    ∙ ap (λ v. v % 2 ^ w) (two.3 ∙ ap₂ bit_or c.down-v.ensures (two.2.ensures ∙ ap (λ i. get_or packed i 0 * 2 ^ (t32 - r * w % t32) % 2 ^ t32) (next-at (r * w / t32) c.args.l)))
+    ∙ value_two size32 w r c.requires.r_lt_t32 c.requires.width_nonzero.0 packed small c.args.l c.requires.l_bound (omega arith) two.0.taken)
+    (two.4 ∙ sym (words_two t32 w r some two.0.taken)))
+    (λ one.
+    ap₂ Value
+    (c.cut.ensures
+    ∙ ap (λ v. v % 2 ^ w) (one.1 ∙ c.down-v.ensures)
+    ∙ value-one size32 w r c.requires.r_lt_t32 c.requires.width_nonzero.0 packed small c.args.l c.requires.l_bound one.0.left)
+    (one.2 ∙ sym (words-one t32 w r some one.0.left)))
+    c.if-s-width-gt-BITS.branch-raw

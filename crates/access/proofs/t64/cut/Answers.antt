@@ -1,0 +1,16 @@
+-- `access::t64::cut` meets its contract: one, shifted up by less than T, is the power itself.
+-- Assumes nothing.
+use mathlib.Core.Path.{ap}
+use Prim.Native.Nat.{◌%◌}
+use native.Mathlib.Omega.{arith}
+use lib.Pow.{pow_pos}
+use borrow.Author.Rules.{rules}
+use Rattle.places.specs.Sizes.{t64}
+use Rattle.rows.proofs.Rows.{one_shifted}
+use Rattle.access.proofs.t64.cut.Goals as goal
+
+pub nonzero_rem-result : goal.nonzero_rem-result
+nonzero_rem-result c = omega (arith, one_shifted t64 c.args.w c.requires, pow_pos c.args.w)
+
+pub returns : goal.returns
+returns c = ap (λ m. c.args.x % m) (one_shifted t64 c.args.w c.requires)

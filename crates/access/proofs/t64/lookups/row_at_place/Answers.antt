@@ -1,0 +1,11 @@
+-- `access::t64::lookups::row_at_place` meets its contract: what is lent is the table.
+-- Assumes nothing.
+use mathlib.Core.Path.{ap, ◌∙◌}
+use lib.ListN.{get_or}
+use borrow.Author.Rules.{rules}
+use Rattle.access.specs.InnerLookups.{lent}
+use Rattle.access.proofs.t64.lookups.row_at_place.Goals as goal
+
+pub returns : goal.returns
+unfolding lent
+returns c = c.wide.ensures ∙ ap (λ l. get_or l c.args.place 0) c.requires.rows_value

@@ -1,0 +1,18 @@
+-- `access::t64::words_at_row` meets its contract: the count is that of the row that is looked up.
+-- Assumes nothing.
+use Rattle.places.proofs.Places.{size64}
+use Rattle.access.proofs.Answers.{index_within}
+use Rattle.access.proofs.Lookups.{row-range, looked_count}
+use Rattle.access.proofs.t64.words_at_row.Goals as goal
+
+pub row_at_place-requires : goal.row_at_place-requires
+row_at_place-requires c =
+    record { rows_value = c.requires.row_by_place_value; place_bound = index_within _ c.requires.index_value }
+
+pub words_read-requires : goal.words_read-requires
+words_read-requires c =
+    record { width_le_t64 = c.requires.width_le_t64; r_lt_t64 = row-range size64 _ (index_within _ c.requires.index_value) _ c.row_at_place.ensures }
+
+pub returns : goal.returns
+returns c =
+    looked_count size64 _ (index_within _ c.requires.index_value) _ c.row_at_place.ensures _ _ c.words_read.ensures

@@ -1,0 +1,24 @@
+-- Written by tools/sizes from the text of size 64: edit that one, and run tools/sizes.
+-- `deltas::t32::copy_sums` meets its contract. The loop's invariant: the first r rows are summed, prev is the last of
+-- them, and row r starts at `start`.
+-- Assumes nothing.
+use mathlib.Core.Path.{sym, ◌∙◌}
+use Prim.Native.Nat.{◌-◌, ◌≤◌}
+use native.Mathlib.Omega.{arith}
+use borrow.Author.Rules.{rules}
+use Rattle.lists.specs.Numbers.{Elements}
+use Rattle.places.specs.Sizes.{t32}
+use Rattle.places.proofs.Places.{size32}
+use Rattle.rows.proofs.Blocks.{Starts, starts_first, starts_at, starts_room, starts_next}
+use Rattle.packing.specs.Packed.{unpack_of}
+use Rattle.packing.proofs.Walks.{copied_row}
+use Rattle.deltas.proofs.Restores.{undelta-pack-is}
+use Rattle.deltas.proofs.Walks.{Summing, summing_none, summing_next, summing_all, unpacked_row}
+use Rattle.deltas.proofs.t32.copy_sums.Given as goal
+
+abbrev pub invariant-loop-r : goal.invariant-loop-r
+invariant-loop-r l =
+    (l.r ≤ t32) × Starts l.r l.start × Summing t32 (unpack_of t32 t32 l.packed) l.base l.r l.values l.prev
+
+abbrev pub decreases-loop-r : goal.decreases-loop-r
+decreases-loop-r l = t32 - l.r

@@ -1,0 +1,33 @@
+-- Written by tools/sizes from the text of size 64: edit that one, and run tools/sizes.
+-- `deltas::t32::frame_split` meets its contract. The invariant of both loops: before row r of the frame, the words that
+-- are full stand in the packed block, and the others are held. A turn of the inner loop leaves room in its words, so
+-- there is a next row.
+-- Assumes nothing.
+use mathlib.Core.Path.{◌≡◌, sym, ap, ap₂, ◌∙◌}
+use mathlib.Core.List.{List}
+use Prim.Native.Nat.{ℕ, ◌+◌, ◌-◌, ◌≤◌, ◌<◌}
+use native.Mathlib.Omega.{arith}
+use lib.ListN.{length}
+use borrow.Author.Rules.{rules}
+use Rattle.places.specs.Sizes.{t32, lanes}
+use Rattle.places.proofs.Places.{size32}
+use Rattle.rows.specs.Rows.{shr_of, or_shl_of, mask_of, sub_of}
+use Rattle.rows.proofs.Blocks.{row_from_lem, row_of, starts_at, starts_room}
+use Rattle.packing.proofs.Walks.{at_lt, at_room, row_more, Packing, packing_on, packing-full, packing-none, packing_all}
+use Rattle.deltas.specs.Deltas.{frame_of, for_pack_of}
+use Rattle.deltas.proofs.Walks.{frame_row}
+use Rattle.deltas.proofs.t32.frame_split.Given as goal
+
+abbrev pub invariant-loop-s : goal.invariant-loop-s
+invariant-loop-s l =
+    (l.initial.r ≤ l.r) × (l.r < t32) × Packing t32 l.width (frame_of t32 l.values l.reference) l.r l.packed l.held l.s l.word l.start
+
+abbrev pub decreases-loop-s : goal.decreases-loop-s
+decreases-loop-s l = t32 - l.r
+
+abbrev pub invariant-loop-r : goal.invariant-loop-r
+invariant-loop-r l =
+    (l.r ≤ t32) × Packing t32 l.width (frame_of t32 l.values l.reference) l.r l.packed l.held l.s l.word l.start
+
+abbrev pub decreases-loop-r : goal.decreases-loop-r
+decreases-loop-r l = t32 - l.r

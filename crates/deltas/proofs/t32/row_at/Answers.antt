@@ -1,0 +1,18 @@
+-- Written by tools/sizes from the text of size 64: edit that one, and run tools/sizes.
+-- `deltas::t32::row_at` meets its contract: the part that is lent has LANES values.
+-- Assumes nothing.
+use mathlib.Core.Path.{ap, ◌∙◌}
+use native.Mathlib.Nat.{add-sub_cancel_left}
+use lib.ListN.{take, drop}
+use borrow.Author.Rules.{rules}
+use Rattle.places.specs.Sizes.{t32, lanes}
+use Rattle.rows.specs.Rows.{load_of}
+use Rattle.rows.proofs.Blocks.{load_part}
+use Rattle.deltas.proofs.t32.row_at.Goals as goal
+
+pub returns : goal.returns
+returns c =
+    let args = c.args in
+    c.load.ensures
+    ∙ ap (λ n. load_of t32 (take n (drop args.a args.block.now))) (add-sub_cancel_left args.a (lanes t32))
+    ∙ load_part t32 args.block.now args.a c.requires

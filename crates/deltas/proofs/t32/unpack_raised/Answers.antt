@@ -1,0 +1,103 @@
+-- Written by tools/sizes from the text of size 64: edit that one, and run tools/sizes.
+-- `deltas::t32::unpack_raised` meets its contract. The loops' invariants: the first rows hold their values, raised by
+-- the reference, and the walk stands where the next one begins.
+-- Assumes nothing.
+use mathlib.Core.Path.{◌≡◌, ap, ap₂, ◌∙◌}
+use mathlib.Core.Logic.{⊎_elim}
+use Prim.Native.Nat.{◌+◌, ◌-◌, ◌*◌, ◌/◌, ◌≤◌, ◌<◌}
+use native.Mathlib.Nat.{add-zero, add_assoc}
+use native.Mathlib.Omega.{arith}
+use lib.ListN.{length}
+use borrow.Author.Rules.{rules}
+use Rattle.lists.specs.Numbers.{plus, Elements}
+use Rattle.places.specs.Sizes.{t32, lanes}
+use Rattle.places.proofs.Places.{size32}
+use Rattle.rows.specs.Rows.{shr_of, or_shl_of, add_of}
+use Rattle.rows.proofs.Blocks.{Laid, laid_none, laid_put, laid_all, start_in}
+use Rattle.packing.specs.Packed.{value_at}
+use Rattle.packing.proofs.Walks.{At, at_first, at_lt, at_room, at-room_two, Read, read-within, read-full, read-over}
+use Rattle.deltas.specs.Deltas.{unfor_pack_of}
+use Rattle.deltas.proofs.Walks.{raised_row}
+use Rattle.deltas.proofs.t32.unpack_raised.Goals as goal
+use Rattle.deltas.proofs.t32.unpack_raised.Goals.{then-s-ge-T+then-s-gt0, then-s-ge-T+else-s-gt0, else-s-ge-T}
+use Rattle.deltas.proofs.t32.unpack_raised.Goals.{In-loop-i, Joined-s-ge-T}
+
+pub loop-o-init : goal.loop-o-init
+loop-o-init c = (search rules, at_first t32 _, laid_none c.requires.values_len)
+
+pub loop-i-init : goal.loop-i-init
+loop-i-init c = (search rules, rw add-zero c.loop-o.invariant.1, rw add-zero c.loop-o.invariant.2)
+
+-- a turn of the inner loop: its row is one of the block's, and begins in words that lie within the packed block
+row_lt : (c : In-loop-i) → c.loop-o.o * 8 + c.loop-i.i < t32
+row_lt c = omega arith
+
+first-room : (c : In-loop-i) → c.loop-i.word + lanes t32 ≤ length c.args.packed.now
+first-room c = omega (arith, at_room size32 (row_lt c) c.requires.width_nonzero.0 c.loop-i.invariant.1)
+
+bit-lt : (c : In-loop-i) → c.loop-i.s < t32
+bit-lt c = at_lt size32 (row_lt c) c.requires.width_nonzero.0 c.loop-i.invariant.1
+
+pub row_at-requires : goal.row_at-requires
+row_at-requires c = first-room (goal.at.row_at-requires c).In-loop-i
+
+pub overflow_add-s : goal.overflow_add-s
+overflow_add-s c = omega (arith, bit-lt (goal.at.overflow_add-s c).In-loop-i)
+
+pub overflow_add-word : goal.overflow_add-word
+overflow_add-word c = omega (arith, first-room (goal.at.overflow_add-word c).In-loop-i)
+
+pub row_at-requires-then-s-gt0 : goal.row_at-requires-then-s-gt0
+row_at-requires-then-s-gt0 c =
+    omega (arith, at-room_two size32 (row_lt (goal.at.row_at-requires-then-s-gt0 c).In-loop-i) c.requires.width_nonzero.0 c.loop-i.invariant.1 (omega arith))
+
+pub overflow_sub-width : goal.overflow_sub-width
+overflow_sub-width c = omega (arith, bit-lt (goal.at.overflow_sub-width c).In-loop-i)
+
+pub put_at-requires : goal.put_at-requires
+put_at-requires c =
+    rw c.loop-i.invariant.2.long
+    (start_in size32 _ _ _ c.loop-i-test.true (row_lt (goal.at.put_at-requires c).In-loop-i) c.row_start.ensures)
+
+-- the row is read
+is_read : (c : Joined-s-ge-T)
+    →         Read t32 c.args.width (c.loop-o.o * 8 + c.loop-i.i) c.args.packed.now
+    c.if-s-ge-T.row c.if-s-ge-T.s c.if-s-ge-T.word
+is_read c =
+    let packed = c.args.packed.now in
+    let small : Elements t32 packed = λ i. omega (arith, c.type_inv.packed i) in
+    let at = c.loop-i.invariant.1 in
+    let hr = (let it : c.loop-o.o * 8 + c.loop-i.i < t32 = omega arith in it) in
+    let first = c.shr-row.ensures ∙ ap (λ x. shr_of t32 x c.loop-i.s) c.row_at.ensures in
+    elim c.if-s-ge-T.branch [
+      | then-s-ge-T+then-s-gt0 w ↦
+          read-over size32 hr c.requires.width_nonzero.0 c.requires.width_nonzero.1 at packed small first (omega arith) w.s-is w.word-is
+              (w.row-is ∙ w.or_shl-both.ensures ∙ ap (λ x. or_shl_of t32 _ x _) w.row_at-then-s-gt0.ensures)
+      | then-s-ge-T+else-s-gt0 w ↦ read-full size32 hr c.requires.width_nonzero.0 c.requires.width_nonzero.1 at packed small (w.row-is ∙ first) (omega arith) w.s-is w.word-is
+      | else-s-ge-T w ↦ read-within size32 hr c.requires.width_nonzero.0 c.requires.width_nonzero.1 at packed small (w.row-is ∙ first) w.if-s-ge-T.false w.s-is w.word-is
+    ]
+
+pub loop-i-preserved : goal.loop-i-preserved
+loop-i-preserved c =
+    let read = is_read (goal.at.loop-i-preserved c).Joined-s-ge-T in
+    let next = add_assoc (c.loop-o.o * 8) c.loop-i.i 1 in (
+      omega arith,
+      rw next at read.next,
+      laid_put size32 _ _ _ c.loop-i-test.true (row_lt (goal.at.loop-i-preserved c).In-loop-i) c.row_start.ensures
+          c.loop-i.invariant.2
+          (c.wrapping_add.ensures
+          ∙ ap₂ (add_of t32) (c.mask.ensures ∙ read.cut) c.splat-lift.ensures
+          ∙ raised_row t32 _ _)
+          c.put_at.ensures,
+    )
+
+pub loop-o-preserved : goal.loop-o-preserved
+loop-o-preserved c =
+    let o = c.loop-o.o in
+    let inv = c.loop-i.invariant in
+    let next : o * 8 + c.loop-i.i ≡ (o + 1) * 8 = omega arith in
+    (omega arith, rw next at inv.1, rw next at inv.2)
+
+pub returns : goal.returns
+unfolding unfor_pack_of
+returns c = laid_all size32 c.loop-o.invariant.2 (omega arith)

@@ -1,0 +1,31 @@
+-- `deltas::t64::undelta` meets its contract: each refusal by its test, and the walk gives the block.
+-- Assumes nothing.
+use mathlib.Core.Path.{refl}
+use native.Mathlib.Omega.{arith}
+use borrow.Author.Rules.{rules}
+use Rattle.places.specs.Sizes.{t64}
+use Rattle.places.proofs.Answers.{done}
+use Rattle.deltas.specs.Calls.{undelta_leaves}
+use Rattle.deltas.proofs.Answers.{delta_bad_input, delta_bad_output, delta_bad_base, delta-good}
+use Rattle.deltas.proofs.t64.undelta.Goals as goal
+
+pub returns-then-input-ne1024 : goal.returns-then-input-ne1024
+unfolding undelta_leaves
+returns-then-input-ne1024 c =
+    rw (delta_bad_input t64 _ _ _ c.if-input-ne1024.true) record { value = refl; output_after = refl }
+
+pub returns-then-output-ne1024 : goal.returns-then-output-ne1024
+unfolding undelta_leaves
+returns-then-output-ne1024 c =
+    rw (delta_bad_output t64 _ _ _ c.if-input-ne1024.false c.if-output-ne1024.true) record { value = refl; output_after = refl }
+
+pub returns-then-base-ne-LANES : goal.returns-then-base-ne-LANES
+unfolding undelta_leaves
+returns-then-base-ne-LANES c =
+    rw (delta_bad_base t64 _ _ _ c.if-input-ne1024.false c.if-output-ne1024.false c.if-base-ne-LANES.true) record { value = refl; output_after = refl }
+
+pub returns : goal.returns
+unfolding undelta_leaves
+returns c =
+    let both = done _ _ _ _ (delta-good t64 c.args.input.now c.args.base.now c.args.output.now (omega arith) (omega arith) (omega arith))
+    c.sums.ensures in record { value = both.0; output_after = both.1 }

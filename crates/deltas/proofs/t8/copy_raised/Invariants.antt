@@ -1,0 +1,26 @@
+-- Written by tools/sizes from the text of size 64: edit that one, and run tools/sizes.
+-- `deltas::t8::copy_raised` meets its contract. The loop's invariant: the first r rows hold their values, raised by
+-- the reference, and row r starts at `start`.
+-- Assumes nothing.
+use mathlib.Core.Path.{ap₂, ◌∙◌}
+use Prim.Native.Nat.{◌-◌, ◌≤◌}
+use native.Mathlib.Omega.{arith}
+use borrow.Author.Rules.{rules}
+use Rattle.lists.specs.Numbers.{plus, Elements}
+use Rattle.places.specs.Sizes.{t8}
+use Rattle.places.proofs.Places.{size8}
+use Rattle.rows.specs.Rows.{add_of}
+use Rattle.rows.proofs.Blocks.{Laid, laid_none, laid_next, laid_all}
+use Rattle.rows.proofs.Blocks.{Starts, starts_first, starts_at, starts_room, starts_next}
+use Rattle.packing.specs.Packed.{value_at}
+use Rattle.packing.proofs.Walks.{copied_row}
+use Rattle.deltas.specs.Deltas.{unfor_pack_of}
+use Rattle.deltas.proofs.Walks.{raised_row}
+use Rattle.deltas.proofs.t8.copy_raised.Given as goal
+
+abbrev pub invariant-loop-r : goal.invariant-loop-r
+invariant-loop-r l =
+    (l.r ≤ t8) × Starts l.r l.start × Laid t8 l.r (λ p. plus t8 (value_at t8 t8 l.packed p) l.reference) l.values
+
+abbrev pub decreases-loop-r : goal.decreases-loop-r
+decreases-loop-r l = t8 - l.r
