@@ -13,6 +13,8 @@
 // the calls on files but for the one that rewrites a file, which rewrites makes, and the one that renumbers one, which
 // renumberings makes; the module drawer of each size makes those on drawers, and trickles those on a body that comes in
 // chunks. print prints. The crate stream has the head of a record, the judge and the counts.
+#![tactic(auto)]
+
 mod bit_block;
 mod block_calls;
 mod block_cases;

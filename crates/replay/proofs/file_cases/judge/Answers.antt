@@ -1,0 +1,11 @@
+-- `replay::file_cases::judge` meets its contract: a case is the same exactly where what was given back and what c holds
+-- are as expected.
+-- Assumes nothing.
+use Rattle.little.specs.Little.{numbers_of}
+use Rattle.stream.proofs.Expected.{judged}
+use Rattle.replay.proofs.file_cases.judge.Goals as goal
+
+pub returns : goal.returns
+returns c =
+    let args = c.args in
+    let both = judged args.head args.reply args.c.now (numbers_of 8 args.c_exit.now args.head.n_c) c.judge.ensures (c.same_words.ensures.n_in_bounds, c.same_words.ensures.value) in record { as_expected = both.0; value = both.1 }

@@ -1,0 +1,18 @@
+-- `replay::indices::indexed` meets its contract. The loop's invariant: the first i indices are written.
+-- Assumes nothing.
+use Rattle.std.proofs.Common.{sym, refl, zero-le, zero-add, arith}
+use Rattle.lists.proofs.Tabs.{written_none, written_next, written_all}
+use Rattle.replay.proofs.indices.indexed.Goals as goal
+
+pub loop-i-init : goal.loop-i-init
+loop-i-init c = (zero-le, refl, written_none zero-le)
+
+pub loop-i-preserved : goal.loop-i-preserved
+loop-i-preserved c =
+    let inv = c.loop-i.invariant in
+    (omega arith, inv.1, written_next inv.2 _ _ (omega arith) (sym (zero-add _)) c.index_of.ensures)
+
+pub returns : goal.returns
+returns c =
+    let inv = c.loop-i.invariant in
+    written_all inv.2 4096 (omega arith) inv.1

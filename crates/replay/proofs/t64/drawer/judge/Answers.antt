@@ -1,0 +1,13 @@
+-- `replay::t64::drawer::judge` meets its contract: a case is the same exactly where what was given back and what c
+-- holds are as expected.
+-- Assumes nothing.
+use Rattle.std.proofs.Common.{◌/◌}
+use Rattle.places.specs.Sizes.{t64}
+use Rattle.little.specs.Little.{numbers_of}
+use Rattle.stream.proofs.Expected.{judged}
+use Rattle.replay.proofs.t64.drawer.judge.Goals as goal
+
+pub returns : goal.returns
+returns c =
+    let args = c.args in
+    let both = judged args.head args.reply args.c.now (numbers_of (t64 / 8) args.c_exit.now args.head.n_c) c.judge.ensures (c.same.ensures.n_in_bounds, c.same.ensures.value) in record { as_expected = both.0; value = both.1 }
