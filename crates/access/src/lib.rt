@@ -4,6 +4,8 @@
 // What is the same at all four element sizes stands here: what a list of lookups gives, with a budget and without, the
 // search of a list for an index past the block's end, and an entry's refusal as the list's. Each size has a module of
 // its own.
+#![tactic(auto)]
+
 pub mod t16;
 pub mod t32;
 pub mod t64;

@@ -4,6 +4,8 @@
 // contents are right (R91). The calls that begin with put write them, as edition 2 (R106).
 //
 // FileAnswer, what every call on a column file answers, stands here too.
+#![tactic(auto)]
+
 ghost use Rattle.std.specs.Prelude.{◌≡◌, ◌+◌, ◌*◌, ◌≤◌, ◌<◌, leb, length};
 ghost use Rattle.lists.specs.Search.{first_bad};
 ghost use Rattle.contents.specs.Answers.{number_of, place_of, file_answer};

@@ -2,6 +2,8 @@
 // with one reference by one call. Each block comes out as the call on that block alone would leave it.
 //
 // Each element size has a module of its own.
+#![tactic(auto)]
+
 pub mod t16;
 pub mod t32;
 pub mod t64;

@@ -1,7 +1,6 @@
 -- `access::at_entry` meets its contract: by the test of the number.
 -- Assumes nothing.
 use mathlib.Core.Path.{sym, ◌∙◌}
-use borrow.Author.Rules.{rules}
 use borrow.Author.Tests.{eq-eqb, ne_eqb}
 use Rattle.places.specs.Answers.{number_of}
 use Rattle.access.proofs.at_entry.Goals as goal

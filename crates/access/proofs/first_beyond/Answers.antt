@@ -1,8 +1,6 @@
 -- `access::first_beyond` meets its contract. The loop's invariant: every place passed holds an index below 1,024.
 -- Assumes nothing.
-use Prim.Native.Nat.{ℕ, ◌-◌, ◌≤◌, ◌<◌}
 use native.Mathlib.Omega.{arith}
-use lib.ListN.{length, get_or}
 use borrow.Author.Count.{below_none, below_more}
 use Rattle.lists.proofs.Search.{first-beyond_only}
 use Rattle.access.proofs.first_beyond.Goals as goal

@@ -1,15 +1,12 @@
 -- `contents::bad_entry` meets its contract. The loop's invariant: every entry that was passed is right, and `at` is
 -- where the next one begins.
 -- Assumes nothing.
-use mathlib.Core.Bool.{true}
 use mathlib.Core.Path.{◌≡◌, sym, ap₂, ◌∙◌}
-use Prim.Native.Nat.{ℕ, ◌+◌, ◌-◌, ◌≤◌, ◌<◌, zero-le}
+use Prim.Native.Nat.{◌+◌, zero-le}
 use native.Mathlib.Omega.{arith}
 use borrow.Author.Count.{below_none, below_more}
-use borrow.Author.Rules.{rules}
-use borrow.Author.Tests.{not-true, not-false}
 use Rattle.lists.proofs.Search.{first_only}
-use Rattle.contents.specs.Contents.{contents_size, is_right}
+use Rattle.contents.specs.Contents.{contents_size}
 use Rattle.contents.proofs.Sizes.{size_none, size-next, size-before}
 use Rattle.contents.proofs.bad_entry.Goals as goal
 use Rattle.contents.proofs.bad_entry.Goals.{Else-not-is_right}
@@ -36,7 +33,7 @@ pub loop-i-preserved : goal.loop-i-preserved
 loop-i-preserved c =
     let loop = c.loop-i in (
       omega arith,
-      below_more _ _ loop.invariant.1 (sym c.is_right.ensures ∙ not-false _ c.if-not-is_right.false),
+      below_more _ _ loop.invariant.1 (sym c.is_right.ensures ∙ c.if-not-is_right.false),
       next (goal.at.loop-i-preserved c).Else-not-is_right,
     )
 
@@ -46,4 +43,4 @@ returns-then-n-i c = first_only _ _ _ c.loop-i.invariant.0 c.loop-i.invariant.1 
 pub returns-then-not-is_right : goal.returns-then-not-is_right
 returns-then-not-is_right c =
     let loop = c.loop-i in
-    first_only _ _ _ loop.invariant.0 loop.invariant.1 (λ h. sym c.is_right.ensures ∙ not-true _ c.if-not-is_right.true)
+    first_only _ _ _ loop.invariant.0 loop.invariant.1 (λ h. sym c.is_right.ensures ∙ c.if-not-is_right.true)

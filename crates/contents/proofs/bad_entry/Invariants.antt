@@ -2,15 +2,9 @@
 -- where the next one begins.
 -- Assumes nothing.
 use mathlib.Core.Bool.{true}
-use mathlib.Core.Path.{◌≡◌, sym, ap₂, ◌∙◌}
-use Prim.Native.Nat.{ℕ, ◌+◌, ◌-◌, ◌≤◌, ◌<◌, zero-le}
-use native.Mathlib.Omega.{arith}
-use borrow.Author.Count.{below_none, below_more}
-use borrow.Author.Rules.{rules}
-use borrow.Author.Tests.{not-true, not-false}
-use Rattle.lists.proofs.Search.{first_only}
+use mathlib.Core.Path.{◌≡◌}
+use Prim.Native.Nat.{ℕ, ◌-◌, ◌≤◌, ◌<◌}
 use Rattle.contents.specs.Contents.{contents_size, is_right}
-use Rattle.contents.proofs.Sizes.{size_none, size-next, size-before}
 use Rattle.contents.proofs.bad_entry.Given as goal
 
 abbrev pub invariant-loop-i : goal.invariant-loop-i

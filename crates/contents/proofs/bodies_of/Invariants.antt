@@ -1,13 +1,9 @@
 -- `contents::bodies_of` meets its contract. The loop's invariant: the sum is that of the entries passed, each of which
 -- is below 2^32, and `at` is where the next one begins.
 -- Assumes nothing.
-use mathlib.Core.Path.{◌≡◌, sym, ap, ap₂, ◌∙◌}
-use Prim.Native.Nat.{◌+◌, ◌*◌, ◌-◌, ◌≤◌}
-use native.Mathlib.Numerals.{add-one}
-use native.Mathlib.Omega.{arith}
-use borrow.Author.Rules.{rules}
-use Rattle.contents.specs.Contents.{bodies_size, contents_size, entry_at, entry_of}
-use Rattle.contents.proofs.Sizes.{size_none, size-next, size-entry, size-before}
+use mathlib.Core.Path.{◌≡◌}
+use Prim.Native.Nat.{◌*◌, ◌-◌, ◌≤◌}
+use Rattle.contents.specs.Contents.{bodies_size, contents_size}
 use Rattle.contents.proofs.bodies_of.Given as goal
 
 abbrev pub invariant-loop-i : goal.invariant-loop-i

@@ -1,16 +1,15 @@
 -- `contents::check` meets its contract: each refusal by its test, and the rest is the check of the entries.
 -- Assumes nothing.
-use mathlib.Core.Logic.{inl, inr, ⊎_elim}
+use mathlib.Core.Logic.{inl, inr}
 use mathlib.Core.Path.{◌≡◌, sym, ap₂, subst, ◌∙◌}
 use native.Mathlib.Omega.{arith}
-use borrow.Author.Rules.{rules}
 use Rattle.little.proofs.Little.{little-within}
 use Rattle.contents.specs.Contents.{edition, count, contents_size}
 use Rattle.contents.proofs.Checks.{Known, short_head, other_edition, many_blocks, short_entries, entries_there}
 use Rattle.contents.proofs.Entries.{edition_there}
 use Rattle.contents.proofs.Sizes.{size-most}
 use Rattle.contents.proofs.check.Goals as goal
-use Rattle.contents.proofs.check.Goals.{After-contents_size, After-count-n, After-edition-edition, Joined-edition-ne1}
+use Rattle.contents.proofs.check.Goals.{After-contents_size, After-count-n, After-edition-edition, Joined-edition-ne1, then-edition-ne1+else-edition-ne2, else-edition-ne1}
 
 -- the edition that was read is the file's
 edition-is : (c : After-edition-edition) → c.edition-edition.result ≡ edition c.args.front.now
@@ -22,7 +21,7 @@ count-is c = c.count-n.ensures ∙ little-within c.args.front.now 2 2 (omega ari
 
 -- and it is one that is known
 known : (c : Joined-edition-ne1) → Known (edition c.args.front.now)
-known c = subst Known (let it : c.edition-edition.result ≡ edition c.args.front.now = c.edition-edition.ensures ∙ edition_there c.args.front.now (omega arith) in it) (⊎_elim (λ w. inr w.1.left) (λ w. inl w.left) c.if-edition-ne1.branch-raw)
+known c = subst Known (let it : c.edition-edition.result ≡ edition c.args.front.now = c.edition-edition.ensures ∙ edition_there c.args.front.now (omega arith) in it) (elim c.if-edition-ne1.branch [ then-edition-ne1+else-edition-ne2 w ↦ inr w.if-edition-ne2.false | else-edition-ne1 w ↦ inl w.if-edition-ne1.false ])
 
 -- the contents that the entries need
 size_is : (c : After-contents_size) → c.contents_size.result

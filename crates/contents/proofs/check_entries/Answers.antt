@@ -3,22 +3,21 @@
 use mathlib.Core.Path.{◌≡◌, sym, ap, ap₂, ◌∙◌}
 use Prim.Native.Nat.{◌+◌, ◌≤◌}
 use native.Mathlib.Omega.{arith}
-use borrow.Author.Rules.{rules}
 use Rattle.lists.specs.Search.{first_bad}
 use Rattle.lists.proofs.Search.{first_le}
 use Rattle.contents.specs.declared.FileAnswer.TheVariants.{BadEntry}
-use Rattle.contents.specs.Contents.{edition, count, contents_size, is_right, bad_entry, bodies_size, body_start}
+use Rattle.contents.specs.Contents.{count, contents_size, is_right, bad_entry, bodies_size, body_start}
 use Rattle.contents.proofs.Checks.{bad_entries, short_bodies, left_over, entries-done}
 use Rattle.contents.proofs.Sizes.{size-most}
 use Rattle.contents.proofs.check_entries.Goals as goal
 use Rattle.contents.proofs.check_entries.Goals.{After-bad_entry-lowest, After-bodies_of}
 
 -- the entry that was found is the lowest bad one
-lowest : (c : After-bad_entry-lowest) → c.of_bad_entry.result ≡ bad_entry c.args.front.now
+lowest : (c : After-bad_entry-lowest) → c.bad_entry-lowest.result ≡ bad_entry c.args.front.now
 unfolding bad_entry
 lowest c =
     let l = c.args.front.now in
-    c.of_bad_entry.ensures ∙ ap (λ n. first_bad n (is_right l)) c.requires.n_value
+    c.bad_entry-lowest.ensures ∙ ap (λ n. first_bad n (is_right l)) c.requires.n_value
 
 -- it is one of them, or there is none
 within : (c : After-bad_entry-lowest) → bad_entry c.args.front.now ≤ count c.args.front.now
@@ -34,9 +33,16 @@ end c =
 
 -- no entry is bad
 none : (c : After-bodies_of) → bad_entry c.args.front.now ≡ count c.args.front.now
+unfolding bad_entry
 none c =
-    omega (arith, (let it : c.of_bad_entry.result ≡ bad_entry c.args.front.now = let l = c.args.front.now in
-    c.of_bad_entry.ensures ∙ ap (λ n. first_bad n (is_right l)) c.requires.n_value in it), (let it : bad_entry c.args.front.now ≤ count c.args.front.now = first_le _ _ in it), c.requires.n_value, c.if-lowest-n.false)
+    omega (
+      arith,
+      (let it : c.bad_entry-lowest.result ≡ bad_entry c.args.front.now = let l = c.args.front.now in
+          c.bad_entry-lowest.ensures ∙ ap (λ n. first_bad n (is_right l)) c.requires.n_value in it),
+      (let it : bad_entry c.args.front.now ≤ count c.args.front.now = first_le _ _ in it),
+      c.requires.n_value,
+      c.if-lowest-n.false,
+    )
 
 pub returns-then-lowest-n : goal.returns-then-lowest-n
 returns-then-lowest-n c =

@@ -2,7 +2,6 @@
 -- Assumes nothing.
 use mathlib.Core.Path.{ap₂, ◌∙◌}
 use native.Mathlib.Omega.{arith}
-use borrow.Author.Rules.{rules}
 use Rattle.contents.specs.Contents.{contents_size}
 use Rattle.contents.proofs.Sizes.{size-most}
 use Rattle.contents.proofs.contents_length.Goals as goal

@@ -3,7 +3,6 @@
 use mathlib.Core.Path.{◌≡◌, ap}
 use Prim.Native.Nat.{◌+◌, ◌*◌}
 use native.Mathlib.Omega.{arith}
-use borrow.Author.Rules.{rules}
 use Rattle.contents.specs.Contents.{contents_size}
 use Rattle.contents.proofs.contents_size.Goals as goal
 use Rattle.contents.proofs.contents_size.Goals.{After-entry_size}

@@ -5,7 +5,6 @@ use Prim.Native.Nat.{◌+◌, ◌≤◌}
 use native.Mathlib.Numerals.{add-one}
 use native.Mathlib.Omega.{arith}
 use lib.ListN.{length}
-use borrow.Author.Rules.{rules}
 use Rattle.contents.specs.Contents.{edition, contents_size, entry_at, entry_of}
 use Rattle.contents.proofs.Entries.{entry_there, entry_missing, entry_found, entry_lost, edition-found}
 use Rattle.contents.proofs.Sizes.{size-entry}

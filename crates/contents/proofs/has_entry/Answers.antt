@@ -8,8 +8,6 @@ use borrow.Author.Tests.{lt-leb}
 use Rattle.little.proofs.Little.{same-leb}
 use Rattle.contents.specs.Contents.{contents_size}
 use Rattle.contents.proofs.Sizes.{size-least, size_second, size-other}
-use Rattle.contents.proofs.has_entry.Reads as reads
-use Rattle.contents.proofs.has_entry.Lts as lts
 use Rattle.contents.proofs.has_entry.Goals as goal
 
 pub returns-then-bytes-lt4 : goal.returns-then-bytes-lt4

@@ -5,7 +5,6 @@ use Prim.Native.Nat.{suc, ◌+◌, ◌≤◌}
 use native.Mathlib.Numerals.{add-one}
 use native.Mathlib.Omega.{arith}
 use lib.ListN.{length}
-use borrow.Author.Rules.{rules}
 use Rattle.contents.specs.Contents.{edition, contents_size}
 use Rattle.contents.proofs.Entries.{right_there, right_missing, entry_found, entry_lost, edition-found}
 use Rattle.contents.proofs.Sizes.{size-entry}

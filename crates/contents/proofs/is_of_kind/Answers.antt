@@ -1,7 +1,6 @@
 -- `contents::is_of_kind` meets its contract: each arm is the tests of its kind.
 -- Assumes nothing.
 use native.Mathlib.Omega.{arith}
-use borrow.Author.Rules.{rules}
 use borrow.Author.Tests.{ne_eqb}
 use Rattle.contents.specs.Contents.{is_of_kind}
 use Rattle.contents.proofs.is_of_kind.Goals as goal

@@ -5,7 +5,6 @@ use mathlib.Core.Path.{◌≡◌, sym, ap, ap₂, ◌∙◌}
 use Prim.Native.Nat.{◌+◌}
 use native.Mathlib.Omega.{arith}
 use lib.Dec.{ltb}
-use borrow.Author.Rules.{rules}
 use Rattle.lists.specs.Pick.{both}
 use Rattle.contents.specs.Contents.{edition, contents_size, entry_at, entry_of, range_at_lem, is_laid_out, is_ordered}
 use Rattle.contents.proofs.Entries.{right_second, right-other}

@@ -4,11 +4,8 @@
 use mathlib.Core.Path.{sym, ap, ◌∙◌}
 use Prim.Native.Nat.{◌+◌}
 use native.Mathlib.Omega.{arith}
-use borrow.Author.Rules.{rules}
 use Rattle.little.specs.Little.{put_leaves}
 use Rattle.contents.proofs.Bytes.{entry_put, entry-left}
-use Rattle.contents.proofs.put_entry.Reads as reads
-use Rattle.contents.proofs.put_entry.Lts as lts
 use Rattle.contents.proofs.put_entry.Goals as goal
 
 pub returns-then-bytes-lt32 : goal.returns-then-bytes-lt32

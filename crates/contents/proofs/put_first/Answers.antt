@@ -4,10 +4,9 @@
 use mathlib.Core.Path.{sym, ap, ◌∙◌}
 use Prim.Native.Nat.{◌+◌}
 use native.Mathlib.Omega.{arith}
-use lib.ListN.{length, length-set}
-use borrow.Author.Rules.{rules}
+use lib.ListN.{length-set}
 use Rattle.little.specs.Little.{put_leaves}
-use Rattle.contents.proofs.Bytes.{first_put, first-left, first-length}
+use Rattle.contents.proofs.Bytes.{first_put, first-left}
 use Rattle.contents.proofs.put_first.Goals as goal
 
 pub returns-then-bytes-lt16 : goal.returns-then-bytes-lt16

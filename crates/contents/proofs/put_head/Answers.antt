@@ -2,7 +2,6 @@
 -- Assumes nothing.
 use mathlib.Core.Path.{sym, ap, ◌∙◌}
 use native.Mathlib.Omega.{arith}
-use borrow.Author.Rules.{rules}
 use Rattle.little.specs.Little.{put_leaves}
 use Rattle.contents.proofs.Bytes.{head_put, head_missing}
 use Rattle.contents.proofs.put_head.Goals as goal

@@ -5,7 +5,6 @@ use mathlib.Core.Path.{◌∙◌, ap}
 use Prim.Native.Nat.{◌+◌, ◌-◌}
 use native.Mathlib.Nat.{add-zero}
 use native.Mathlib.Omega.{arith}
-use borrow.Author.Rules.{rules}
 use Rattle.little.specs.Little.{little}
 use Rattle.contents.proofs.Parts.{part-number}
 use Rattle.contents.proofs.range_at.Goals as goal

@@ -3,7 +3,6 @@
 use mathlib.Core.Path.{sym, ap, ◌∙◌}
 use Prim.Native.Nat.{◌+◌}
 use native.Mathlib.Omega.{arith}
-use borrow.Author.Rules.{rules}
 use Rattle.contents.specs.Contents.{contents_size, range_at_lem}
 use Rattle.contents.proofs.Entries.{range_second, range_other}
 use Rattle.contents.proofs.Sizes.{size-range}

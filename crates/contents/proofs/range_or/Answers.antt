@@ -4,7 +4,6 @@ use mathlib.Core.Path.{sym, ap, ◌∙◌}
 use Prim.Native.Nat.{◌+◌}
 use native.Mathlib.Numerals.{add-one}
 use native.Mathlib.Omega.{arith}
-use borrow.Author.Rules.{rules}
 use Rattle.contents.specs.Contents.{edition, contents_size}
 use Rattle.contents.proofs.Entries.{range_there, range_missing, entry_found, entry_lost, edition-found}
 use Rattle.contents.proofs.range_or.Goals as goal

@@ -2,22 +2,12 @@
 -- `access::t16::look_up_within` meets its contract. The loop's invariant: the first i outputs hold the values at their
 -- indices, and what they read and what is left are the budget.
 -- Assumes nothing.
-use mathlib.Core.Logic.{inl, inr, ⊎_elim}
-use mathlib.Core.Path.{◌≡◌, refl, sym, ap, subst, ◌∙◌}
-use Prim.Native.Nat.{ℕ, ◌-◌, ◌≤◌, ◌<◌, zero-le}
-use native.Mathlib.Nat.{zero-add}
-use native.Mathlib.Omega.{arith}
+use Prim.Native.Nat.{◌-◌, ◌≤◌}
 use lib.ListN.{length, get_or}
-use borrow.Author.Rules.{rules}
-use Rattle.lists.proofs.Tabs.{Written, written_none, written-length, written_next}
+use Rattle.lists.proofs.Tabs.{Written}
 use Rattle.places.specs.Sizes.{t16}
-use Rattle.places.specs.declared.Answer.{Answer}
-use Rattle.access.specs.declared.t16.Single.TheVariants.{Value, Refused}
-use Rattle.access.specs.t16.{value_of, words_of}
-use Rattle.access.specs.Counts.{count_at}
 use Rattle.packing.specs.Packed.{value_at}
-use Rattle.access.proofs.Counts.{has-count}
-use Rattle.access.proofs.Budgets.{Spent, spent_none, enough, spent_within, spent_next, spent_gives, spent_leaves}
+use Rattle.access.proofs.Budgets.{Spent}
 use Rattle.access.proofs.t16.look_up_within.Given as goal
 
 abbrev pub invariant-loop-i : goal.invariant-loop-i

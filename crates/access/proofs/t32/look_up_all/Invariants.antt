@@ -2,23 +2,12 @@
 -- `access::t32::look_up_all` meets its contract. The loop's invariant: the first i outputs hold the values at their
 -- indices, and their second words are counted.
 -- Assumes nothing.
-use mathlib.Core.Logic.{⊎_elim}
-use mathlib.Core.Path.{◌≡◌, sym, ap, subst, ◌∙◌}
-use Prim.Native.Nat.{ℕ, ◌+◌, ◌-◌, ◌≤◌, zero-le}
-use native.Mathlib.Nat.{zero-add}
-use native.Mathlib.Omega.{arith}
+use Prim.Native.Nat.{◌-◌, ◌≤◌}
 use lib.ListN.{length, get_or}
-use borrow.Author.Rules.{rules}
-use Rattle.lists.proofs.Tabs.{Written, written_none, written-length, written_next, written_all}
+use Rattle.lists.proofs.Tabs.{Written}
 use Rattle.places.specs.Sizes.{t32}
-use Rattle.places.specs.declared.Answer.{Answer}
-use Rattle.access.specs.declared.t32.Single.TheVariants.{Value, Refused}
-use Rattle.access.specs.declared.Listed.TheVariants.{Words}
-use Rattle.access.specs.Calls.{list_of}
-use Rattle.access.specs.t32.{value_of, words_of}
-use Rattle.access.specs.Counts.{count_at, counts_of_lem, sum_of}
 use Rattle.packing.specs.Packed.{value_at}
-use Rattle.access.proofs.Counts.{has-count, Seconds, seconds_none, seconds_small, seconds_all, seconds_more, seconds_same, list-twice, list_unheld}
+use Rattle.access.proofs.Counts.{Seconds}
 use Rattle.access.proofs.t32.look_up_all.Given as goal
 
 abbrev pub invariant-loop-i : goal.invariant-loop-i

@@ -2,14 +2,14 @@
 -- `access::t32::look_up_within` meets its contract. The loop's invariant: the first i outputs hold the values at their
 -- indices, and what they read and what is left are the budget.
 -- Assumes nothing.
-use mathlib.Core.Logic.{inl, inr, ⊎_elim}
+use mathlib.Core.Logic.{inl, inr}
 use mathlib.Core.Path.{◌≡◌, refl, sym, ap, subst, ◌∙◌}
-use Prim.Native.Nat.{ℕ, ◌-◌, ◌≤◌, ◌<◌, zero-le}
+use Prim.Native.Nat.{ℕ, ◌≤◌, ◌<◌, zero-le}
 use native.Mathlib.Nat.{zero-add}
 use native.Mathlib.Omega.{arith}
-use lib.ListN.{length, get_or}
+use lib.ListN.{get_or}
 use borrow.Author.Rules.{rules}
-use Rattle.lists.proofs.Tabs.{Written, written_none, written-length, written_next}
+use Rattle.lists.proofs.Tabs.{written_none, written-length, written_next}
 use Rattle.places.specs.Sizes.{t32}
 use Rattle.places.specs.declared.Answer.{Answer}
 use Rattle.access.specs.declared.t32.Single.TheVariants.{Value, Refused}
@@ -17,9 +17,9 @@ use Rattle.access.specs.t32.{value_of, words_of}
 use Rattle.access.specs.Counts.{count_at}
 use Rattle.packing.specs.Packed.{value_at}
 use Rattle.access.proofs.Counts.{has-count}
-use Rattle.access.proofs.Budgets.{Spent, spent_none, enough, spent_within, spent_next, spent_gives, spent_leaves}
+use Rattle.access.proofs.Budgets.{spent_none, enough, spent_within, spent_next, spent_gives, spent_leaves}
 use Rattle.access.proofs.t32.look_up_within.Goals as goal
-use Rattle.access.proofs.t32.look_up_within.Goals.{After-look_up-found}
+use Rattle.access.proofs.t32.look_up_within.Goals.{After-look_up-found, then-left-lt2+else-left-words_at_row, else-left-lt2}
 
 pub loop-i-init : goal.loop-i-init
 loop-i-init c = (search rules, written_none zero-le, spent_none t32 _ _ _)
@@ -45,7 +45,7 @@ look_up-found-requires c =
 
 -- the single answer is the value and its count, since its index was looked at before
 answered : (c : After-look_up-found)
-    →     let index = get_or c.args.indices.now c.loop-i.i 0 in
+    → let index = get_or c.args.indices.now c.loop-i.i 0 in
     c.look_up-found.result ≡ Value (value_at t32 c.args.width c.args.packed.now index) (count_at t32 c.args.width index)
 answered c = let good = c.requires.by_index _ c.loop-i-test.true in c.look_up-found.ensures ∙ rw good
 
@@ -55,12 +55,15 @@ never c a e = has-count t32 _ _ (ap words_of (sym (answered c) ∙ e))
 
 -- and enough is left for it
 affords : (c : After-look_up-found)
-    →     count_at t32 c.args.width (get_or c.args.indices.now c.loop-i.i 0) ≤ c.loop-i.left
-affords c = enough t32 _ _ _ (⊎_elim (λ near. inr (subst (λ n. n ≤ c.loop-i.left) near.3.ensures near.4.left)) (λ far. inl far.left) c.if-left-lt2.branch-raw)
+    → count_at t32 c.args.width (get_or c.args.indices.now c.loop-i.i 0) ≤ c.loop-i.left
+affords c = enough t32 _ _ _ (elim c.if-left-lt2.branch [
+  | then-left-lt2+else-left-words_at_row w ↦ inr (subst (λ n. n ≤ c.loop-i.left) w.words_at_row.ensures w.if-left-words_at_row.false)
+  | else-left-lt2 w ↦ inl w.if-left-lt2.false
+])
 
 pub returns-in_default : goal.returns-in_default
 returns-in_default c =
-    let both = absurd (never (goal.at.returns-in_default c).After-look_up-found _ c.in_default.is) in record { value = both.0; output_after = both.1 }
+    absurd (never (goal.at.returns-in_default c).After-look_up-found _ c.in_default.is)
 
 -- sizes: end
 pub bounds-output-i : goal.bounds-output-i
@@ -68,7 +71,7 @@ bounds-output-i c = omega (arith, written-length c.loop-i.invariant.1)
 
 -- what the entry gives is the value and the count
 gives : (c : After-look_up-found) (v n : ℕ) → c.look_up-found.result ≡ Value v n
-    →     let index = get_or c.args.indices.now c.loop-i.i 0 in
+    → let index = get_or c.args.indices.now c.loop-i.i 0 in
     (v ≡ value_at t32 c.args.width c.args.packed.now index) × (n ≡ count_at t32 c.args.width index)
 gives c v n e = let same = sym e ∙ answered c in (ap value_of same, ap words_of same)
 

@@ -2,13 +2,11 @@
 -- `access::t32::read_split` meets its contract: by the laws of one word and of two.
 -- Assumes nothing.
 use mathlib.Core.Path.{◌≡◌, sym, ap, ap₂, ◌∙◌}
-use mathlib.Core.Logic.{⊎_elim}
 use Prim.Native.Nat.{ℕ, ◌+◌, ◌-◌, ◌*◌, ◌/◌, ◌%◌, ◌^◌, ◌≤◌, ◌<◌}
 use native.Mathlib.Nat.{mul-le-mul}
 use native.Mathlib.Omega.{arith}
 use lib.Bits.{bit_or}
 use lib.ListN.{length, get_or}
-use borrow.Author.Rules.{rules}
 use Rattle.lists.specs.Numbers.{Elements}
 use Rattle.places.specs.Sizes.{t32, lanes}
 use Rattle.places.proofs.Places.{size32}
@@ -17,7 +15,7 @@ use Rattle.packing.proofs.Turns.{word_room, first_word, next_word, value-one, va
 use Rattle.access.specs.declared.t32.Single.TheVariants.{Value}
 use Rattle.access.proofs.Counts.{words-one, words_two}
 use Rattle.access.proofs.t32.read_split.Goals as goal
-use Rattle.access.proofs.t32.read_split.Goals.{Start}
+use Rattle.access.proofs.t32.read_split.Goals.{Start, then-s-width-gt-BITS, else-s-width-gt-BITS}
 
 -- the bit at which the value begins is small
 bit_le : (c : Start) → c.args.r * c.args.width ≤ t32 * t32
@@ -75,17 +73,17 @@ returns c =
     let packed = c.args.packed.now in
     let small : Elements t32 packed = λ i. omega (arith, c.type_inv.packed i) in
     let some : w ≡ 0 → ⊥ = λ e. omega (arith, c.requires.width_nonzero.0) in
-    ⊎_elim
-    (λ two.
-    ap₂ Value
-    (c.cut.ensures
-    ∙ ap (λ v. v % 2 ^ w) (two.3 ∙ ap₂ bit_or c.down-v.ensures (two.2.ensures ∙ ap (λ i. get_or packed i 0 * 2 ^ (t32 - r * w % t32) % 2 ^ t32) (next-at (r * w / t32) c.args.l)))
-    ∙ value_two size32 w r c.requires.r_lt_t32 c.requires.width_nonzero.0 packed small c.args.l c.requires.l_bound (omega arith) two.0.taken)
-    (two.4 ∙ sym (words_two t32 w r some two.0.taken)))
-    (λ one.
-    ap₂ Value
-    (c.cut.ensures
-    ∙ ap (λ v. v % 2 ^ w) (one.1 ∙ c.down-v.ensures)
-    ∙ value-one size32 w r c.requires.r_lt_t32 c.requires.width_nonzero.0 packed small c.args.l c.requires.l_bound one.0.left)
-    (one.2 ∙ sym (words-one t32 w r some one.0.left)))
-    c.if-s-width-gt-BITS.branch-raw
+    elim c.if-s-width-gt-BITS.branch [
+      | then-s-width-gt-BITS w' ↦
+          ap₂ Value
+          (c.cut.ensures
+          ∙ ap (λ v. v % 2 ^ w) (w'.v-is ∙ ap₂ bit_or c.down-v.ensures (w'.up-v.ensures ∙ ap (λ i. get_or packed i 0 * 2 ^ (t32 - r * w % t32) % 2 ^ t32) (next-at (r * w / t32) c.args.l)))
+          ∙ value_two size32 w r c.requires.r_lt_t32 c.requires.width_nonzero.0 packed small c.args.l c.requires.l_bound (omega arith) w'.if-s-width-gt-BITS.true)
+          (w'.n-is ∙ sym (words_two t32 w r some w'.if-s-width-gt-BITS.true))
+      | else-s-width-gt-BITS w' ↦
+          ap₂ Value
+          (c.cut.ensures
+          ∙ ap (λ v. v % 2 ^ w) (w'.v-is ∙ c.down-v.ensures)
+          ∙ value-one size32 w r c.requires.r_lt_t32 c.requires.width_nonzero.0 packed small c.args.l c.requires.l_bound w'.if-s-width-gt-BITS.false)
+          (w'.n-is ∙ sym (words-one t32 w r some w'.if-s-width-gt-BITS.false))
+    ]

@@ -2,7 +2,6 @@
 -- `access::t32::unpack_indices` meets its contract: a refusal is that of the list, and the rest is the lookups'.
 -- Assumes nothing.
 use mathlib.Core.Path.{◌≡◌, sym, ◌∙◌}
-use borrow.Author.Rules.{rules}
 use Rattle.places.specs.Answers.{number_of}
 use Rattle.places.specs.Sizes.{t32}
 use Rattle.access.specs.declared.Listed.TheVariants.{Refused}
@@ -21,7 +20,7 @@ returns-then-number-ne0 c =
 
 -- where the answer has number 0 the list was taken
 taken : (c : Else-number-ne0)
-    →     Listable t32 c.args.width c.args.packed.now c.args.indices.now c.args.output.now
+    → Listable t32 c.args.width c.args.packed.now c.args.indices.now c.args.output.now
 taken c = list-taken _ _ _ _ _ (sym c.list_answer-answer.ensures ∙ number-done _ (sym c.number.ensures ∙ c.if-number-ne0.false))
 
 pub look_up_all-requires : goal.look_up_all-requires

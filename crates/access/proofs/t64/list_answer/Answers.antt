@@ -4,7 +4,6 @@ use mathlib.Core.Path.{◌≡◌, sym, ap, subst, ◌∙◌}
 use Prim.Native.Nat.{◌<◌}
 use native.Mathlib.Omega.{arith}
 use lib.ListN.{length}
-use borrow.Author.Rules.{rules}
 use Rattle.lists.specs.Search.{first_beyond}
 use Rattle.lists.proofs.Search.{first-beyond_le}
 use Rattle.places.specs.declared.Answer.TheVariants.{Index}

@@ -4,7 +4,6 @@
 use mathlib.Core.Path.{◌∙◌}
 use Prim.Native.Nat.{◌<◌}
 use native.Mathlib.Omega.{arith}
-use borrow.Author.Rules.{rules}
 use Rattle.places.specs.Sizes.{t64}
 use Rattle.places.proofs.Places.{size64}
 use Rattle.access.specs.declared.t64.Single.TheVariants.{Value, Refused}
@@ -18,7 +17,7 @@ returns-then-index-ge1024 c = index_past Value Refused _ _ _ c.if-index-ge1024.t
 pub read-requires : goal.read-requires
 read-requires c =
     let range = looked_range size64 c.args.index (omega arith) _ c.row_at_place-r.ensures _ c.lane_at-l.ensures in
-    let both = (c.requires.width_le_t64, (c.requires.packed_len, range)) in record { width_le_t64 = both.0; packed_len = both.1.0; l_bound = both.1.1.0; r_lt_t64 = both.1.1.1 }
+    record { width_le_t64 = c.requires.width_le_t64; packed_len = c.requires.packed_len; l_bound = range.0; r_lt_t64 = range.1 }
 
 pub returns : goal.returns
 returns c =

@@ -4,7 +4,6 @@
 use mathlib.Core.Path.{sym, ◌∙◌}
 use Prim.Native.Nat.{◌<◌}
 use native.Mathlib.Omega.{arith}
-use borrow.Author.Rules.{rules}
 use Rattle.places.specs.Sizes.{t64}
 use Rattle.places.proofs.Places.{size64}
 use Rattle.access.specs.declared.t64.Single.TheVariants.{Value, Refused}
@@ -26,7 +25,7 @@ returns-then-index-ge1024 c =
 pub read-requires : goal.read-requires
 read-requires c =
     let range = looked_range size64 c.args.index (omega arith) _ c.row_of-r.ensures _ c.lane_of-l.ensures in
-    let both = (omega arith, (omega arith, range)) in record { width_le_t64 = both.0; packed_len = both.1.0; l_bound = both.1.1.0; r_lt_t64 = both.1.1.1 }
+    record { width_le_t64 = omega arith; packed_len = omega arith; l_bound = range.0; r_lt_t64 = range.1 }
 
 pub returns : goal.returns
 returns c =

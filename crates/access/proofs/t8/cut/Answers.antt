@@ -5,7 +5,6 @@ use mathlib.Core.Path.{ap}
 use Prim.Native.Nat.{◌%◌}
 use native.Mathlib.Omega.{arith}
 use lib.Pow.{pow_pos}
-use borrow.Author.Rules.{rules}
 use Rattle.places.specs.Sizes.{t8}
 use Rattle.rows.proofs.Rows.{one_shifted}
 use Rattle.access.proofs.t8.cut.Goals as goal

@@ -5,7 +5,6 @@
 use mathlib.Core.Path.{◌∙◌}
 use Prim.Native.Nat.{◌<◌}
 use native.Mathlib.Omega.{arith}
-use borrow.Author.Rules.{rules}
 use Rattle.places.specs.Sizes.{t8}
 use Rattle.places.proofs.Places.{size8}
 use Rattle.access.specs.declared.t8.Single.TheVariants.{Value, Refused}
@@ -19,7 +18,7 @@ returns-then-index-ge1024 c = index_past Value Refused _ _ _ c.if-index-ge1024.t
 pub read-requires : goal.read-requires
 read-requires c =
     let range = looked_range size8 c.args.index (omega arith) _ c.row_at_place-r.ensures _ c.lane_at-l.ensures in
-    let both = (c.requires.width_le_t8, (c.requires.packed_len, range)) in record { width_le_t8 = both.0; packed_len = both.1.0; l_bound = both.1.1.0; r_lt_t8 = both.1.1.1 }
+    record { width_le_t8 = c.requires.width_le_t8; packed_len = c.requires.packed_len; l_bound = range.0; r_lt_t8 = range.1 }
 
 pub returns : goal.returns
 returns c =

@@ -3,7 +3,6 @@
 -- Assumes nothing.
 use mathlib.Core.Path.{◌≡◌, sym, ap, ap₂, ◌∙◌}
 use native.Mathlib.Omega.{arith}
-use borrow.Author.Rules.{rules}
 use Rattle.lists.specs.Numbers.{digit, Elements}
 use Rattle.places.specs.Sizes.{t8}
 use Rattle.places.proofs.Places.{whole_word}

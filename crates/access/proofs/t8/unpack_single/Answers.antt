@@ -5,7 +5,6 @@
 use mathlib.Core.Path.{sym, ◌∙◌}
 use Prim.Native.Nat.{◌<◌}
 use native.Mathlib.Omega.{arith}
-use borrow.Author.Rules.{rules}
 use Rattle.places.specs.Sizes.{t8}
 use Rattle.places.proofs.Places.{size8}
 use Rattle.access.specs.declared.t8.Single.TheVariants.{Value, Refused}
@@ -27,7 +26,7 @@ returns-then-index-ge1024 c =
 pub read-requires : goal.read-requires
 read-requires c =
     let range = looked_range size8 c.args.index (omega arith) _ c.row_of-r.ensures _ c.lane_of-l.ensures in
-    let both = (omega arith, (omega arith, range)) in record { width_le_t8 = both.0; packed_len = both.1.0; l_bound = both.1.1.0; r_lt_t8 = both.1.1.1 }
+    record { width_le_t8 = omega arith; packed_len = omega arith; l_bound = range.0; r_lt_t8 = range.1 }
 
 pub returns : goal.returns
 returns c =

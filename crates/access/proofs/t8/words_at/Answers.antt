@@ -4,7 +4,6 @@
 -- Assumes nothing.
 use mathlib.Core.Path.{◌∙◌}
 use native.Mathlib.Omega.{arith}
-use borrow.Author.Rules.{rules}
 use Rattle.places.specs.Sizes.{t8}
 use Rattle.places.proofs.Places.{size8}
 use Rattle.access.proofs.Counts.{no-width, no_place, a_place}

@@ -4,7 +4,6 @@
 use mathlib.Core.Path.{sym}
 use native.Mathlib.Nat.{mul-le-mul}
 use native.Mathlib.Omega.{arith}
-use borrow.Author.Rules.{rules}
 use Rattle.places.specs.Sizes.{t8}
 use Rattle.access.proofs.Counts.{words-none, words-one, words_two}
 use Rattle.access.proofs.t8.words_read.Goals as goal

@@ -1,6 +1,5 @@
 -- `contents::Entry::is_laid_out` meets its contract: by what `is_of_kind` ensures.
 -- Assumes nothing.
-use borrow.Author.Rules.{rules}
 use Rattle.contents.specs.Contents.{is_laid_out}
 use Rattle.contents.proofs.Entry.is_laid_out.Goals as goal
 

@@ -2,19 +2,14 @@
 -- `deltas::t16::differences` meets its contract. The loops' invariants: the first rows hold their differences, and prev
 -- is the row before the next one.
 -- Assumes nothing.
-use mathlib.Core.Path.{◌≡◌, sym, ap, ap₂, ◌∙◌}
-use Prim.Native.Nat.{◌+◌, ◌-◌, ◌*◌, ◌/◌, ◌≤◌, ◌<◌}
-use native.Mathlib.Nat.{add-zero, add_assoc}
-use native.Mathlib.Omega.{arith}
-use lib.ListN.{length, get_or}
-use borrow.Author.Rules.{rules}
+use mathlib.Core.Path.{◌≡◌}
+use Prim.Native.Nat.{◌+◌, ◌-◌, ◌*◌, ◌/◌, ◌≤◌}
+use lib.ListN.{get_or}
 use Rattle.lists.specs.Numbers.{minus}
-use Rattle.places.specs.Sizes.{t16, lanes}
-use Rattle.places.proofs.Places.{size16}
-use Rattle.rows.proofs.Blocks.{row_from, Laid, laid_none, laid_put, laid_all, start-at, start_in}
-use Rattle.rows.specs.Rows.{sub_of}
-use Rattle.deltas.specs.Deltas.{before, delta_of}
-use Rattle.deltas.proofs.Walks.{load-base, row_before_lem, before_later, differ_row}
+use Rattle.places.specs.Sizes.{t16}
+use Rattle.rows.proofs.Blocks.{Laid}
+use Rattle.deltas.specs.Deltas.{before}
+use Rattle.deltas.proofs.Walks.{row_before_lem}
 use Rattle.deltas.proofs.t16.differences.Given as goal
 
 abbrev pub invariant-loop-i : goal.invariant-loop-i

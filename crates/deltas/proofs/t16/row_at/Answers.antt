@@ -4,7 +4,6 @@
 use mathlib.Core.Path.{ap, ◌∙◌}
 use native.Mathlib.Nat.{add-sub_cancel_left}
 use lib.ListN.{take, drop}
-use borrow.Author.Rules.{rules}
 use Rattle.places.specs.Sizes.{t16, lanes}
 use Rattle.rows.specs.Rows.{load_of}
 use Rattle.rows.proofs.Blocks.{load_part}

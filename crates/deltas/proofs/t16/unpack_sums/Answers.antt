@@ -3,8 +3,7 @@
 -- last of them, and the walk stands where the next one begins.
 -- Assumes nothing.
 use mathlib.Core.Path.{◌≡◌, sym, ap, ◌∙◌}
-use mathlib.Core.Logic.{⊎_elim}
-use Prim.Native.Nat.{◌+◌, ◌-◌, ◌*◌, ◌/◌, ◌≤◌, ◌<◌}
+use Prim.Native.Nat.{◌+◌, ◌*◌, ◌≤◌, ◌<◌}
 use native.Mathlib.Nat.{add-zero, add_assoc}
 use native.Mathlib.Omega.{arith}
 use lib.ListN.{length}
@@ -14,10 +13,9 @@ use Rattle.places.specs.Sizes.{t16, lanes}
 use Rattle.places.proofs.Places.{size16}
 use Rattle.rows.specs.Rows.{shr_of, or_shl_of}
 use Rattle.rows.proofs.Blocks.{start-at, start_in}
-use Rattle.packing.specs.Packed.{unpack_of}
-use Rattle.packing.proofs.Walks.{At, at_first, at_lt, at_room, at-room_two, Read, read-within, read-full, read-over}
+use Rattle.packing.proofs.Walks.{at_first, at_lt, at_room, at-room_two, Read, read-within, read-full, read-over}
 use Rattle.deltas.proofs.Restores.{undelta-pack-is}
-use Rattle.deltas.proofs.Walks.{Summing, summing_none, summing_next, summing_all, unpacked_row}
+use Rattle.deltas.proofs.Walks.{summing_none, summing_next, summing_all, unpacked_row}
 use Rattle.deltas.proofs.t16.unpack_sums.Goals as goal
 use Rattle.deltas.proofs.t16.unpack_sums.Goals.{then-s-ge-T+then-s-gt0, then-s-ge-T+else-s-gt0, else-s-ge-T}
 use Rattle.deltas.proofs.t16.unpack_sums.Goals.{In-loop-i, Joined-s-ge-T}
@@ -62,7 +60,7 @@ put_at-requires c =
 
 -- the row is read
 is_read : (c : Joined-s-ge-T)
-    →         Read t16 c.args.width (c.loop-o.o * 8 + c.loop-i.i) c.args.packed.now
+    → Read t16 c.args.width (c.loop-o.o * 8 + c.loop-i.i) c.args.packed.now
     c.if-s-ge-T.row c.if-s-ge-T.s c.if-s-ge-T.word
 is_read c =
     let packed = c.args.packed.now in
@@ -73,7 +71,7 @@ is_read c =
     elim c.if-s-ge-T.branch [
       | then-s-ge-T+then-s-gt0 w ↦
           read-over size16 hr c.requires.width_nonzero.0 c.requires.width_nonzero.1 at packed small first (omega arith) w.s-is w.word-is
-              (w.row-is ∙ w.or_shl-both.ensures ∙ ap (λ x. or_shl_of t16 _ x _) w.row_at-then-s-gt0.ensures)
+          (w.row-is ∙ w.or_shl-both.ensures ∙ ap (λ x. or_shl_of t16 _ x _) w.row_at-then-s-gt0.ensures)
       | then-s-ge-T+else-s-gt0 w ↦ read-full size16 hr c.requires.width_nonzero.0 c.requires.width_nonzero.1 at packed small (w.row-is ∙ first) (omega arith) w.s-is w.word-is
       | else-s-ge-T w ↦ read-within size16 hr c.requires.width_nonzero.0 c.requires.width_nonzero.1 at packed small (w.row-is ∙ first) w.if-s-ge-T.false w.s-is w.word-is
     ]

@@ -3,17 +3,16 @@
 -- is the row before the next one.
 -- Assumes nothing.
 use mathlib.Core.Path.{◌≡◌, sym, ap, ap₂, ◌∙◌}
-use Prim.Native.Nat.{◌+◌, ◌-◌, ◌*◌, ◌/◌, ◌≤◌, ◌<◌}
+use Prim.Native.Nat.{◌+◌, ◌*◌, ◌≤◌, ◌<◌}
 use native.Mathlib.Nat.{add-zero, add_assoc}
 use native.Mathlib.Omega.{arith}
-use lib.ListN.{length, get_or}
+use lib.ListN.{length}
 use borrow.Author.Rules.{rules}
-use Rattle.lists.specs.Numbers.{minus}
 use Rattle.places.specs.Sizes.{t32, lanes}
 use Rattle.places.proofs.Places.{size32}
-use Rattle.rows.proofs.Blocks.{row_from, Laid, laid_none, laid_put, laid_all, start-at, start_in}
+use Rattle.rows.proofs.Blocks.{row_from, laid_none, laid_put, laid_all, start-at, start_in}
 use Rattle.rows.specs.Rows.{sub_of}
-use Rattle.deltas.specs.Deltas.{before, delta_of}
+use Rattle.deltas.specs.Deltas.{delta_of}
 use Rattle.deltas.proofs.Walks.{load-base, row_before_lem, before_later, differ_row}
 use Rattle.deltas.proofs.t32.differences.Goals as goal
 use Rattle.deltas.proofs.t32.differences.Goals.{After-row_start-start, In-loop-i}

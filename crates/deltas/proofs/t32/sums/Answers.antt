@@ -3,14 +3,14 @@
 -- them.
 -- Assumes nothing.
 use mathlib.Core.Path.{◌≡◌, ◌∙◌}
-use Prim.Native.Nat.{◌+◌, ◌-◌, ◌*◌, ◌/◌, ◌≤◌, ◌<◌}
+use Prim.Native.Nat.{◌+◌, ◌*◌, ◌<◌}
 use native.Mathlib.Nat.{add-zero, add_assoc}
 use native.Mathlib.Omega.{arith}
 use borrow.Author.Rules.{rules}
 use Rattle.places.specs.Sizes.{t32}
 use Rattle.places.proofs.Places.{size32}
 use Rattle.rows.proofs.Blocks.{row_from, start-at, start_in}
-use Rattle.deltas.proofs.Walks.{Summing, summing_none, summing_next, summing_all}
+use Rattle.deltas.proofs.Walks.{summing_none, summing_next, summing_all}
 use Rattle.deltas.proofs.t32.sums.Goals as goal
 use Rattle.deltas.proofs.t32.sums.Goals.{In-loop-i}
 

@@ -3,7 +3,6 @@
 -- Assumes nothing.
 use mathlib.Core.Path.{◌≡◌, refl, sym, ap, ◌∙◌}
 use native.Mathlib.Omega.{arith}
-use borrow.Author.Rules.{rules}
 use Rattle.places.specs.Sizes.{t64}
 use Rattle.places.proofs.Answers.{done}
 use Rattle.packing.proofs.Answers.{bad_width, bad_block, bad_packed, good_block}

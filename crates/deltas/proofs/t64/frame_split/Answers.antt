@@ -12,7 +12,7 @@ use Rattle.places.specs.Sizes.{t64, lanes}
 use Rattle.places.proofs.Places.{size64}
 use Rattle.rows.specs.Rows.{shr_of, or_shl_of, mask_of, sub_of}
 use Rattle.rows.proofs.Blocks.{row_from_lem, row_of, starts_at, starts_room}
-use Rattle.packing.proofs.Walks.{at_lt, at_room, row_more, Packing, packing_on, packing-full, packing-none, packing_all}
+use Rattle.packing.proofs.Walks.{at_lt, at_room, row_more, packing_on, packing-full, packing-none, packing_all}
 use Rattle.deltas.specs.Deltas.{frame_of, for_pack_of}
 use Rattle.deltas.proofs.Walks.{frame_row}
 use Rattle.deltas.proofs.t64.frame_split.Goals as goal

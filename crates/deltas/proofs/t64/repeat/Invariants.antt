@@ -1,14 +1,10 @@
 -- `deltas::t64::repeat` meets its contract. The loop's invariant: the places before a, which are whole rows, hold the
 -- row again and again.
 -- Assumes nothing.
-use mathlib.Core.Path.{◌≡◌, refl, sym, ap, ◌∙◌}
-use Prim.Native.Nat.{◌+◌, ◌-◌, ◌%◌, ◌≤◌, zero-le}
-use native.Mathlib.Nat.{zero-add}
-use native.Mathlib.Omega.{arith}
-use lib.ListN.{length, get_or}
-use borrow.Author.Rules.{rules}
-use Rattle.lists.specs.Tab.{tab, over}
-use Rattle.lists.proofs.Tabs.{tab_ext, tab_get_d, Written, written_none, written-length, written-run, written_all}
+use mathlib.Core.Path.{◌≡◌}
+use Prim.Native.Nat.{◌-◌, ◌%◌, ◌≤◌}
+use lib.ListN.{get_or}
+use Rattle.lists.proofs.Tabs.{Written}
 use Rattle.places.specs.Places.{lane}
 use Rattle.places.specs.Sizes.{t64, lanes}
 use Rattle.deltas.proofs.t64.repeat.Given as goal

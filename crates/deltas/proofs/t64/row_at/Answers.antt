@@ -3,7 +3,6 @@
 use mathlib.Core.Path.{ap, ◌∙◌}
 use native.Mathlib.Nat.{add-sub_cancel_left}
 use lib.ListN.{take, drop}
-use borrow.Author.Rules.{rules}
 use Rattle.places.specs.Sizes.{t64, lanes}
 use Rattle.rows.specs.Rows.{load_of}
 use Rattle.rows.proofs.Blocks.{load_part}

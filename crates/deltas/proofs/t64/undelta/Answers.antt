@@ -2,7 +2,6 @@
 -- Assumes nothing.
 use mathlib.Core.Path.{refl}
 use native.Mathlib.Omega.{arith}
-use borrow.Author.Rules.{rules}
 use Rattle.places.specs.Sizes.{t64}
 use Rattle.places.proofs.Answers.{done}
 use Rattle.deltas.specs.Calls.{undelta_leaves}

@@ -3,19 +3,10 @@
 -- are full stand in the packed block, and the others are held. A turn of the inner loop leaves room in its words, so
 -- there is a next row.
 -- Assumes nothing.
-use mathlib.Core.Path.{◌≡◌, sym, ap, ap₂, ◌∙◌}
-use mathlib.Core.List.{List}
-use Prim.Native.Nat.{ℕ, ◌+◌, ◌-◌, ◌≤◌, ◌<◌}
-use native.Mathlib.Omega.{arith}
-use lib.ListN.{length}
-use borrow.Author.Rules.{rules}
-use Rattle.places.specs.Sizes.{t8, lanes}
-use Rattle.places.proofs.Places.{size8}
-use Rattle.rows.specs.Rows.{shr_of, or_shl_of, mask_of, sub_of}
-use Rattle.rows.proofs.Blocks.{row_from_lem, row_of, starts_at, starts_room}
-use Rattle.packing.proofs.Walks.{at_lt, at_room, row_more, Packing, packing_on, packing-full, packing-none, packing_all}
-use Rattle.deltas.specs.Deltas.{frame_of, for_pack_of}
-use Rattle.deltas.proofs.Walks.{frame_row}
+use Prim.Native.Nat.{◌-◌, ◌≤◌, ◌<◌}
+use Rattle.places.specs.Sizes.{t8}
+use Rattle.packing.proofs.Walks.{Packing}
+use Rattle.deltas.specs.Deltas.{frame_of}
 use Rattle.deltas.proofs.t8.frame_split.Given as goal
 
 abbrev pub invariant-loop-s : goal.invariant-loop-s

@@ -3,13 +3,13 @@
 -- row again and again.
 -- Assumes nothing.
 use mathlib.Core.Path.{◌≡◌, refl, sym, ap, ◌∙◌}
-use Prim.Native.Nat.{◌+◌, ◌-◌, ◌%◌, ◌≤◌, zero-le}
+use Prim.Native.Nat.{◌+◌, ◌%◌, zero-le}
 use native.Mathlib.Nat.{zero-add}
 use native.Mathlib.Omega.{arith}
 use lib.ListN.{length, get_or}
 use borrow.Author.Rules.{rules}
 use Rattle.lists.specs.Tab.{tab, over}
-use Rattle.lists.proofs.Tabs.{tab_ext, tab_get_d, Written, written_none, written-length, written-run, written_all}
+use Rattle.lists.proofs.Tabs.{tab_ext, tab_get_d, written_none, written-length, written-run, written_all}
 use Rattle.places.specs.Places.{lane}
 use Rattle.places.specs.Sizes.{t8, lanes}
 use Rattle.deltas.proofs.t8.repeat.Goals as goal

@@ -2,15 +2,9 @@
 -- `deltas::t8::sums` meets its contract. The loops' invariants: the first rows are summed, and prev is the last of
 -- them.
 -- Assumes nothing.
-use mathlib.Core.Path.{◌≡◌, ◌∙◌}
-use Prim.Native.Nat.{◌+◌, ◌-◌, ◌*◌, ◌/◌, ◌≤◌, ◌<◌}
-use native.Mathlib.Nat.{add-zero, add_assoc}
-use native.Mathlib.Omega.{arith}
-use borrow.Author.Rules.{rules}
+use Prim.Native.Nat.{◌+◌, ◌-◌, ◌*◌, ◌/◌, ◌≤◌}
 use Rattle.places.specs.Sizes.{t8}
-use Rattle.places.proofs.Places.{size8}
-use Rattle.rows.proofs.Blocks.{row_from, start-at, start_in}
-use Rattle.deltas.proofs.Walks.{Summing, summing_none, summing_next, summing_all}
+use Rattle.deltas.proofs.Walks.{Summing}
 use Rattle.deltas.proofs.t8.sums.Given as goal
 
 abbrev pub invariant-loop-i : goal.invariant-loop-i

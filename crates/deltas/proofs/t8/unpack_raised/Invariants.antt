@@ -2,22 +2,12 @@
 -- `deltas::t8::unpack_raised` meets its contract. The loops' invariants: the first rows hold their values, raised by
 -- the reference, and the walk stands where the next one begins.
 -- Assumes nothing.
-use mathlib.Core.Path.{◌≡◌, ap, ap₂, ◌∙◌}
-use mathlib.Core.Logic.{⊎_elim}
-use Prim.Native.Nat.{◌+◌, ◌-◌, ◌*◌, ◌/◌, ◌≤◌, ◌<◌}
-use native.Mathlib.Nat.{add-zero, add_assoc}
-use native.Mathlib.Omega.{arith}
-use lib.ListN.{length}
-use borrow.Author.Rules.{rules}
-use Rattle.lists.specs.Numbers.{plus, Elements}
-use Rattle.places.specs.Sizes.{t8, lanes}
-use Rattle.places.proofs.Places.{size8}
-use Rattle.rows.specs.Rows.{shr_of, or_shl_of, add_of}
-use Rattle.rows.proofs.Blocks.{Laid, laid_none, laid_put, laid_all, start_in}
+use Prim.Native.Nat.{◌+◌, ◌-◌, ◌*◌, ◌/◌, ◌≤◌}
+use Rattle.lists.specs.Numbers.{plus}
+use Rattle.places.specs.Sizes.{t8}
+use Rattle.rows.proofs.Blocks.{Laid}
 use Rattle.packing.specs.Packed.{value_at}
-use Rattle.packing.proofs.Walks.{At, at_first, at_lt, at_room, at-room_two, Read, read-within, read-full, read-over}
-use Rattle.deltas.specs.Deltas.{unfor_pack_of}
-use Rattle.deltas.proofs.Walks.{raised_row}
+use Rattle.packing.proofs.Walks.{At}
 use Rattle.deltas.proofs.t8.unpack_raised.Given as goal
 
 abbrev pub invariant-loop-i : goal.invariant-loop-i

@@ -2,22 +2,11 @@
 -- `deltas::t8::unpack_sums` meets its contract. The loops' invariants: the first rows hold their sums, prev is the
 -- last of them, and the walk stands where the next one begins.
 -- Assumes nothing.
-use mathlib.Core.Path.{◌≡◌, sym, ap, ◌∙◌}
-use mathlib.Core.Logic.{⊎_elim}
-use Prim.Native.Nat.{◌+◌, ◌-◌, ◌*◌, ◌/◌, ◌≤◌, ◌<◌}
-use native.Mathlib.Nat.{add-zero, add_assoc}
-use native.Mathlib.Omega.{arith}
-use lib.ListN.{length}
-use borrow.Author.Rules.{rules}
-use Rattle.lists.specs.Numbers.{Elements}
-use Rattle.places.specs.Sizes.{t8, lanes}
-use Rattle.places.proofs.Places.{size8}
-use Rattle.rows.specs.Rows.{shr_of, or_shl_of}
-use Rattle.rows.proofs.Blocks.{start-at, start_in}
+use Prim.Native.Nat.{◌+◌, ◌-◌, ◌*◌, ◌/◌, ◌≤◌}
+use Rattle.places.specs.Sizes.{t8}
 use Rattle.packing.specs.Packed.{unpack_of}
-use Rattle.packing.proofs.Walks.{At, at_first, at_lt, at_room, at-room_two, Read, read-within, read-full, read-over}
-use Rattle.deltas.proofs.Restores.{undelta-pack-is}
-use Rattle.deltas.proofs.Walks.{Summing, summing_none, summing_next, summing_all, unpacked_row}
+use Rattle.packing.proofs.Walks.{At}
+use Rattle.deltas.proofs.Walks.{Summing}
 use Rattle.deltas.proofs.t8.unpack_sums.Given as goal
 
 abbrev pub invariant-loop-i : goal.invariant-loop-i

@@ -1,6 +1,5 @@
 -- `access::t16::lookups::lane_at` meets its contract: the rule gives the entry, and what is lent is not read.
 -- Assumes nothing.
-use borrow.Author.Rules.{rules}
 use Rattle.places.specs.Places.{lane}
 use Rattle.places.specs.Sizes.{t16}
 use Rattle.access.proofs.Lookups.{by_rule}

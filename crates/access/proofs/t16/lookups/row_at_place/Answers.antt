@@ -1,6 +1,5 @@
 -- `access::t16::lookups::row_at_place` meets its contract: the rule gives the entry, and what is lent is not read.
 -- Assumes nothing.
-use borrow.Author.Rules.{rules}
 use Rattle.places.specs.Places.{row}
 use Rattle.places.specs.Sizes.{t16}
 use Rattle.access.proofs.Lookups.{by_rule}

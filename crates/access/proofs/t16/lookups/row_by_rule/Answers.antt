@@ -1,6 +1,5 @@
 -- `access::t16::lookups::row_by_rule` meets its contract: the arithmetic gives the row, without the order list.
 -- Assumes nothing.
-use native.Mathlib.Omega.{arith}
 use Rattle.access.proofs.Lookups.{small-t16, row_by_eights}
 use Rattle.access.proofs.t16.lookups.row_by_rule.Goals as goal
 

@@ -3,7 +3,6 @@
 -- Assumes nothing.
 use mathlib.Core.Path.{ap, ◌∙◌}
 use lib.ListN.{get_or}
-use borrow.Author.Rules.{rules}
 use Rattle.places.specs.Places.{lane}
 use Rattle.places.specs.Sizes.{t32}
 use Rattle.access.proofs.Lookups.{past_end}

@@ -3,7 +3,6 @@
 -- Assumes nothing.
 use mathlib.Core.Path.{ap, ◌∙◌}
 use lib.ListN.{get_or}
-use borrow.Author.Rules.{rules}
 use Rattle.access.specs.InnerLookups.{lent}
 use Rattle.access.proofs.t32.lookups.row_at_place.Goals as goal
 

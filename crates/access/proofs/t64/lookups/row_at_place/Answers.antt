@@ -2,7 +2,6 @@
 -- Assumes nothing.
 use mathlib.Core.Path.{ap, ◌∙◌}
 use lib.ListN.{get_or}
-use borrow.Author.Rules.{rules}
 use Rattle.access.specs.InnerLookups.{lent}
 use Rattle.access.proofs.t64.lookups.row_at_place.Goals as goal
 

@@ -1,7 +1,6 @@
 -- Written by tools/sizes from the text of size 16: edit that one, and run tools/sizes.
 -- `access::t8::lookups::lane_at` meets its contract: the rule gives the entry, and what is lent is not read.
 -- Assumes nothing.
-use borrow.Author.Rules.{rules}
 use Rattle.places.specs.Places.{lane}
 use Rattle.places.specs.Sizes.{t8}
 use Rattle.access.proofs.Lookups.{by_rule}

@@ -2,7 +2,6 @@
 -- `access::t8::lookups::lane_of` meets its contract: below the block's end the rule gives the entry.
 -- Assumes nothing.
 use native.Mathlib.Omega.{arith}
-use borrow.Author.Rules.{rules}
 use Rattle.places.specs.Places.{lane}
 use Rattle.places.specs.Sizes.{t8}
 use Rattle.access.proofs.Lookups.{past_end, by_rule}

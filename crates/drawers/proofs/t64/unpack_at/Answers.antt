@@ -1,0 +1,13 @@
+-- `drawers::t64::unpack_at` meets its contract: the part that is lent comes back as the call leaves it.
+-- Assumes nothing.
+use mathlib.Core.Path.{refl}
+use Prim.Native.Nat.{◌*◌}
+use native.Mathlib.Nat.{add-sub_cancel_left}
+use Rattle.places.specs.Sizes.{t64, lanes}
+use Rattle.drawers.proofs.Blocks.{unpack-part}
+use Rattle.drawers.proofs.t64.unpack_at.Goals as goal
+
+pub returns : goal.returns
+returns c =
+    unpack-part t64 c.args.width c.requires.width_le_t64.0 c.args.packed.now c.args.values.now _ c.args.b _ _ _ _ refl c.requires.width_in_bounds c.requires.b_in_bounds
+    (add-sub_cancel_left (c.args.b * (lanes t64 * c.args.width)) (lanes t64 * c.args.width)) (add-sub_cancel_left (c.args.b * 1024) 1024) c.unpack.ensures.values_after
