@@ -4,6 +4,8 @@
 //
 // It is slow, and it is there to be believed: it leans on no code of packing or access, and has no rule of its own for
 // any width. What asks for no element stands here; each element size has a module of its own.
+#![tactic(auto)]
+
 pub mod t16;
 pub mod t32;
 pub mod t64;

@@ -1,6 +1,8 @@
 // What the programs that replay a case stream have in common: the head of a record, whether a call gave back what is
 // expected, and the counts of a run. The format of a stream is docs/CASES.md. Reading and printing stand in the
 // programs, since no contract can say what is read or printed.
+#![tactic(auto)]
+
 pub mod elements;
 pub mod narrow;
 

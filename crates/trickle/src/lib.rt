@@ -3,6 +3,8 @@
 //
 // A state is a struct with public fields, so that one may be handed in that no start gave. One that cannot be the state
 // of a body counts as the state that a refused start gives, and feed and ask go by the state that counts.
+#![tactic(auto)]
+
 ghost use Rattle.std.specs.Prelude.{◌≡◌, ◌+◌, ◌*◌, ◌≤◌, min, length, take};
 ghost use Rattle.lists.specs.Tab.{over};
 ghost use Rattle.places.specs.Sizes.{t64};
