@@ -7,11 +7,17 @@
 // granted one after another. This is to be read beside `granted` and `runs_by` in the definitions of the crate wishes,
 // which say the same of lists. A file that does not open is one of no bytes, and so is one that cannot be read. A write
 // that fails ends the run, since nothing could be printed behind it: of that the definitions do not speak.
+#![tactic(auto)]
+
 ghost use Rattle.std.specs.Prelude.{◌≡◌, ◌≤◌, length, take};
 
 use console::lines::write_out;
 use console::read::{length_of, read_at};
 use listing::{State, Turn, next, start, turns};
+use std::fs::File;
+use std::io::{Error, Write};
+use std::rt::Files;
+use std::str;
 use wishes::{Part, Side, Wish};
 
 // The room for the front of a file, and for a body.
@@ -19,17 +25,17 @@ const FRONT: usize = 8196;
 
 const BODY: usize = 10240;
 
-fn main() {
-    let left = opened(b"left.col");
-    let right = opened(b"right.col");
+fn main(rt: HostRuntime) {
+    let left = opened(&rt, "left.col");
+    let right = opened(&rt, "right.col");
     let mut left_front = [0u8; FRONT];
     let mut right_front = [0u8; FRONT];
     let mut left_body = [0u8; BODY];
     let mut right_body = [0u8; BODY];
     let mut out = [0u8; 65536];
     run(
-        left,
-        right,
+        left.as_ref(),
+        right.as_ref(),
         &mut left_front,
         &mut right_front,
         &mut left_body,
@@ -39,12 +45,41 @@ fn main() {
 }
 
 // The open file of that name. The system's words go to standard error where it does not open.
-fn opened(name: &[u8]) -> i32 {
-    let fd = os::open_read(name);
-    if fd < 0 {
-        os::fail(name);
+fn opened(rt: &(impl Files<File = File> + Eprint), name: &str) -> Option<File> {
+    match File::open(rt, name) {
+        Ok(file) => Some(file),
+        Err(error) => {
+            say_why(rt, name, error);
+            None
+        }
     }
-    fd
+}
+
+// Writes a line to standard error: the name of the file, and why it does not open. That this fails changes nothing.
+fn say_why(rt: &impl Eprint, name: &str, error: Error) {
+    let mut text = [0u8; 256];
+    let n = put_error(error, &mut text);
+    let words = without_number(str::from_utf8(&text[..n]).unwrap_or(""));
+    let _ = eprintln!(rt; "{name}: {words}");
+}
+
+// Puts the text of an error, as std writes it, at the front of a buffer, as much as has room, and says how many bytes
+// that is.
+fn put_error(error: Error, text: &mut [u8]) -> usize
+    ensures { result ≤ length text.old }
+{
+    let most = text.len();
+    let mut rest = text;
+    let _ = write!(rest, "{error}");
+    most.saturating_sub(rest.len())
+}
+
+// The system's words, without the number of the error, which std writes behind them.
+fn without_number(text: &str) -> &str {
+    match text.rsplit_once(" (os error ") {
+        Some((words, _)) => words,
+        None => text,
+    }
 }
 
 // How many bytes the buffers of one file hold,
@@ -71,8 +106,8 @@ struct Now {
 
 // The machine is given as many turns as it needs.
 fn run(
-    left: i32,
-    right: i32,
+    left: Option<&File>,
+    right: Option<&File>,
     left_front: &mut [u8],
     right_front: &mut [u8],
     left_body: &mut [u8],
@@ -109,8 +144,8 @@ fn run(
 // A turn grants the wish, and then the machine is shown what the buffers hold, and says what it wishes next.
 fn take_turn(
     now: Now,
-    left: i32,
-    right: i32,
+    left: Option<&File>,
+    right: Option<&File>,
     left_front: &mut [u8],
     right_front: &mut [u8],
     left_body: &mut [u8],
@@ -153,8 +188,8 @@ fn take_turn(
 // for a read, and where a write fails, the run stops.
 fn grant(
     wish: Wish,
-    left: i32,
-    right: i32,
+    left: Option<&File>,
+    right: Option<&File>,
     held: Held,
     left_front: &mut [u8],
     right_front: &mut [u8],
@@ -199,7 +234,7 @@ fn room_of(part: Part) -> usize {
 
 // Reads n bytes of a file from `at` on into one of its buffers.
 fn fill(
-    fd: i32,
+    file: Option<&File>,
     part: Part,
     at: usize,
     n: usize,
@@ -209,24 +244,24 @@ fn fill(
 ) -> Filled {
     match part {
         Part::Front => Filled {
-            front: read_part(fd, at, n, front),
+            front: read_part(file, at, n, front),
             body: held.body,
         },
         Part::Body => Filled {
             front: held.front,
-            body: read_part(fd, at, n, body),
+            body: read_part(file, at, n, body),
         },
     }
 }
 
 // Reads n bytes from `at` on to the front of a buffer, and says how many are there.
-fn read_part(fd: i32, at: usize, n: usize, part: &mut [u8]) -> usize
+fn read_part(file: Option<&File>, at: usize, n: usize, part: &mut [u8]) -> usize
     ensures { result ≤ length part.old }
 {
     if part.len() < n {
         return 0;
     }
-    read_at(fd, at, &mut part[..n])
+    read_at(file, at, &mut part[..n])
 }
 
 // The next turn of the machine.

@@ -6,10 +6,12 @@ ghost use Rattle.little.specs.Little.{little};
 ghost use Rattle.replay.specs.Elements.{is_size};
 
 use crate::block_cases::Wide;
-use libc::STDIN_FILENO;
 use little::{pair, quad, word};
 use stream::narrow::{widen_u8, widen_u16, widen_u32};
 use stream::{Head, head_of};
+
+// The number of standard input among the open files.
+const STDIN: i32 = 0;
 
 // What stands where a record may begin.
 #[derive(Clone, Copy)]
@@ -24,7 +26,7 @@ pub enum Beginning {
 // The head of the next record.
 pub fn read_head() -> Beginning {
     let mut bytes = [0u8; 56];
-    let got = io::read_full(STDIN_FILENO, &mut bytes);
+    let got = io::read_full(STDIN, &mut bytes);
     if got == 0 {
         return Beginning::End;
     }
@@ -48,7 +50,7 @@ pub fn read_numbers(n: usize, size: usize, out: &mut Wide) -> bool {
     }
     let mut bytes = [0u8; 32768];
     let total = n * size;
-    let got = io::read_full(STDIN_FILENO, &mut bytes[..total]);
+    let got = io::read_full(STDIN, &mut bytes[..total]);
     if got != total {
         return false;
     }
@@ -100,7 +102,7 @@ pub fn read_bytes(n: usize, out: &mut [u8]) -> bool {
     if out.len() < n {
         return false;
     }
-    let got = io::read_full(STDIN_FILENO, &mut out[..n]);
+    let got = io::read_full(STDIN, &mut out[..n]);
     got == n
 }
 

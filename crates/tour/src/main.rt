@@ -5,8 +5,10 @@
 use access::t8::Single;
 use contents::FileAnswer;
 use files::Row;
-use libc::STDOUT_FILENO;
 use places::Answer;
+
+// The number of standard output among the open files.
+const STDOUT: i32 = 1;
 
 fn main() {
     let rows = each_its_row();
@@ -227,14 +229,14 @@ fn show_answer(answer: Answer) {
 // A line with two numbers.
 fn line(before: &[u8], first: u64, between: &[u8], second: u64) {
     say(before);
-    io::print_decimal(STDOUT_FILENO, first);
+    io::print_decimal(STDOUT, first);
     say(between);
-    io::print_decimal(STDOUT_FILENO, second);
+    io::print_decimal(STDOUT, second);
     say(b"\n");
 }
 
 fn say(text: &[u8]) {
-    io::write_all(STDOUT_FILENO, text);
+    io::write_all(STDOUT, text);
 }
 
 // A cast in a function of its own leaves nothing to prove where it is used.
