@@ -1,6 +1,8 @@
 // One body of a column file against its entry, and the block that it stands for (R84, R92), with the smallest and the
 // largest value of a block (R87). A program that holds the contents of a file and one body at a time needs no more than
 // this and the crate contents.
+#![tactic(auto)]
+
 mod walks;
 
 ghost use Rattle.std.specs.Prelude.{◌≡◌, true, [], ◌∷◌, ◌+◌, ◌*◌, ◌≤◌, ◌<◌, min, max, eqb, length};

@@ -3,7 +3,6 @@
 -- Assumes nothing.
 use mathlib.Core.Path.{◌≡◌, sym, ◌∙◌}
 use native.Mathlib.Omega.{arith}
-use borrow.Author.Rules.{rules}
 use Rattle.contents.specs.Answers.{number_of}
 use Rattle.bodies.proofs.Bodies.{bad_output, good-output, refused, block_answer, block_left}
 use Rattle.bodies.proofs.block_of.Goals as goal

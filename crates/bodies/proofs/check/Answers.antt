@@ -1,8 +1,6 @@
 -- `bodies::check` meets its contract: the entry and the length are tested first, and then the run indices.
 -- Assumes nothing.
 use mathlib.Core.Path.{sym, ◌∙◌}
-use borrow.Author.Rules.{rules}
-use borrow.Author.Tests.{not-true, not-false}
 use Rattle.bodies.proofs.Bodies.{body-whole, runs_done, runs_bad}
 use Rattle.bodies.proofs.check.Goals as goal
 

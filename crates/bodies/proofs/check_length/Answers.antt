@@ -3,8 +3,6 @@
 use mathlib.Core.Bool.{true}
 use mathlib.Core.Path.{◌≡◌, refl, sym, ◌∙◌}
 use native.Mathlib.Omega.{arith}
-use borrow.Author.Rules.{rules}
-use borrow.Author.Tests.{not-true, not-false}
 use Rattle.contents.specs.Contents.{is_laid_out}
 use Rattle.bodies.proofs.Bodies.{not_laid, body-cut, body-over}
 use Rattle.bodies.proofs.check_length.Goals as goal

@@ -5,7 +5,6 @@ use Prim.Native.Nat.{◌-◌}
 use native.Mathlib.Omega.{arith}
 use lib.ListN.{length, take, drop, length-drop}
 use lib.Seq.{take_all}
-use borrow.Author.Rules.{rules}
 use Rattle.places.specs.Sizes.{t64}
 use Rattle.deltas.specs.Deltas.{undelta_pack_of}
 use Rattle.bodies.specs.Bodies.{packed_from}

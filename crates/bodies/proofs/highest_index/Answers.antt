@@ -3,7 +3,6 @@
 use mathlib.Core.Path.{refl, ap, ◌∙◌}
 use native.Mathlib.Omega.{arith}
 use lib.ListN.{replicate}
-use borrow.Author.Rules.{rules}
 use Rattle.lists.specs.Ends.{highest_of}
 use Rattle.bodies.proofs.Bodies.{numbers-read}
 use Rattle.bodies.proofs.highest_index.Goals as goal

@@ -5,7 +5,6 @@ use mathlib.Core.Path.{sym, ap, ap₂, ◌∙◌}
 use native.Mathlib.Omega.{arith}
 use lib.Dec.{eqb}
 use lib.Seq.{take_all, length-take-le}
-use borrow.Author.Rules.{rules}
 use Rattle.lists.specs.Pick.{both}
 use Rattle.bodies.specs.Ranges.{is_range}
 use Rattle.bodies.proofs.is_range.Goals as goal

@@ -1,14 +1,9 @@
 -- `bodies::range_of` meets its contract: the lowest and the highest number of the places passed, with those to come,
 -- are those of all. A turn passes two places.
 -- Assumes nothing.
-use mathlib.Core.List.{List}
-use mathlib.Core.Path.{◌≡◌, refl, ap, ◌∙◌}
-use Prim.Native.Nat.{ℕ, ◌+◌, ◌*◌, ◌-◌, ◌/◌, ◌≤◌, ◌<◌, min, max}
-use native.Mathlib.Omega.{arith}
-use lib.ListN.{length, get_or}
-use borrow.Author.Rules.{rules}
-use Rattle.lists.proofs.Highs.{Passed as Highs, passed_none as highs-none, passed-next as highs-next, passed_all as highs-all}
-use Rattle.lists.proofs.Lows.{Passed as Lows, passed_none as lows-none, passed-next as lows-next, passed_all as lows-all}
+use Prim.Native.Nat.{◌*◌, ◌-◌, ◌≤◌}
+use Rattle.lists.proofs.Highs.{Passed as Highs}
+use Rattle.lists.proofs.Lows.{Passed as Lows}
 use Rattle.bodies.proofs.range_of.Given as goal
 
 abbrev pub invariant-loop-i : goal.invariant-loop-i

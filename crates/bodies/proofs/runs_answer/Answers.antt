@@ -2,7 +2,6 @@
 -- Assumes nothing.
 use mathlib.Core.Path.{sym, ◌∙◌}
 use borrow.Author.Tests.{eq-eqb, ne_eqb}
-use borrow.Author.Rules.{rules}
 use Rattle.bodies.proofs.Bodies.{runs_done, runs_bad}
 use Rattle.bodies.proofs.runs_answer.Goals as goal
 

@@ -23,5 +23,8 @@ runs_through-requires c =
 pub returns : goal.returns
 returns c =
     let body = c.args.body.now in
-    let long = lent 64 c.args.n c.requires.n_bound in record { value = c.runs_through.ensures.value ∙ ap (λ n. file_answer ((indexed n body, Runs 0) ∷ [])) long; output_after = c.runs_through.ensures.output_after
-          ∙ ap (λ n. pick (indexed n body) (decode_of (words_from body 2048 n) (run_indices body)) c.args.output.now) long }
+    let long = lent 64 c.args.n c.requires.n_bound in record {
+      value = c.runs_through.ensures.value ∙ ap (λ n. file_answer ((indexed n body, Runs 0) ∷ [])) long;
+      output_after = c.runs_through.ensures.output_after
+          ∙ ap (λ n. pick (indexed n body) (decode_of (words_from body 2048 n) (run_indices body)) c.args.output.now) long;
+    }

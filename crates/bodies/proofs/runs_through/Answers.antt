@@ -3,7 +3,6 @@
 -- Assumes nothing.
 use mathlib.Core.List.{[], ◌∷◌}
 use mathlib.Core.Path.{ap, ap₂, ◌∙◌}
-use borrow.Author.Rules.{rules}
 use Rattle.places.specs.Answers.{is_done}
 use Rattle.places.specs.Takes.{answer_for}
 use Rattle.runs.specs.Calls.{decode_takes, decode_leaves}
@@ -20,6 +19,9 @@ returns c =
     let indices = args.indices.now in
     let output = args.output.now in
     let read = ap₂ (λ v x. decode_takes v x output) c.read_words.ensures c.read_pairs.ensures in
-    let taken = ap is_done (c.decode.ensures.value ∙ ap answer_for read) ∙ runs_taken body indices values output c.requires.body_len c.requires.indices_len c.requires.output_len in record { value = c.runs_answer.ensures ∙ ap (λ b. file_answer ((b, Runs 0) ∷ [])) taken; output_after = c.decode.ensures.output_after
+    let taken = ap is_done (c.decode.ensures.value ∙ ap answer_for read) ∙ runs_taken body indices values output c.requires.body_len c.requires.indices_len c.requires.output_len in record {
+      value = c.runs_answer.ensures ∙ ap (λ b. file_answer ((b, Runs 0) ∷ [])) taken;
+      output_after = c.decode.ensures.output_after
           ∙ ap₂ (λ v x. decode_leaves v x output) c.read_words.ensures c.read_pairs.ensures
-          ∙ runs-left body indices values output c.requires.body_len c.requires.indices_len c.requires.output_len }
+          ∙ runs-left body indices values output c.requires.body_len c.requires.indices_len c.requires.output_len;
+    }

@@ -2,16 +2,15 @@
 -- the reference, and row r starts at `start`.
 -- Assumes nothing.
 use mathlib.Core.Path.{ap₂, ◌∙◌}
-use Prim.Native.Nat.{◌*◌, ◌-◌, ◌≤◌}
+use Prim.Native.Nat.{◌*◌}
 use native.Mathlib.Omega.{arith}
 use borrow.Author.Rules.{rules}
-use Rattle.lists.specs.Numbers.{plus, Elements}
+use Rattle.lists.specs.Numbers.{Elements}
 use Rattle.places.specs.Sizes.{t64, lanes}
 use Rattle.places.proofs.Places.{size64}
 use Rattle.rows.specs.Rows.{add_of}
-use Rattle.rows.proofs.Blocks.{Laid, laid_none, laid_next, laid_all}
-use Rattle.rows.proofs.Blocks.{Starts, starts_first, starts_at, starts_room, starts_next}
-use Rattle.packing.specs.Packed.{value_at}
+use Rattle.rows.proofs.Blocks.{laid_none, laid_next, laid_all}
+use Rattle.rows.proofs.Blocks.{starts_first, starts_at, starts_room, starts_next}
 use Rattle.packing.proofs.Walks.{copied_row}
 use Rattle.deltas.specs.Deltas.{unfor_pack_of}
 use Rattle.deltas.proofs.Walks.{raised_row}

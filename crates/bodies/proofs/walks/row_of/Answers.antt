@@ -3,7 +3,6 @@
 use mathlib.Core.Path.{refl, ap, ◌∙◌}
 use native.Mathlib.Nat.{add-sub_cancel_left}
 use lib.ListN.{take, drop, replicate}
-use borrow.Author.Rules.{rules}
 use Rattle.little.specs.Little.{read_leaves}
 use Rattle.bodies.proofs.Bytes.{words-part}
 use Rattle.bodies.proofs.walks.row_of.Goals as goal

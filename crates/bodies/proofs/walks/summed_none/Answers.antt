@@ -3,7 +3,6 @@
 use mathlib.Core.List.{[]}
 use mathlib.Core.Path.{refl, ◌∙◌}
 use native.Mathlib.Omega.{arith}
-use borrow.Author.Rules.{rules}
 use Rattle.places.specs.Sizes.{t64}
 use Rattle.deltas.proofs.Answers.{undelta-pack-leaves}
 use Rattle.bodies.proofs.walks.summed_none.Goals as goal

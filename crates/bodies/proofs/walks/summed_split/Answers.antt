@@ -2,8 +2,7 @@
 -- last of them, and the walk stands where the next one begins.
 -- Assumes nothing.
 use mathlib.Core.Path.{◌≡◌, sym, ap, ◌∙◌}
-use mathlib.Core.Logic.{⊎_elim}
-use Prim.Native.Nat.{◌+◌, ◌-◌, ◌*◌, ◌/◌, ◌≤◌, ◌<◌}
+use Prim.Native.Nat.{◌+◌, ◌*◌, ◌≤◌, ◌<◌}
 use native.Mathlib.Nat.{add-zero, add_assoc}
 use native.Mathlib.Omega.{arith}
 use lib.ListN.{length}
@@ -13,14 +12,13 @@ use Rattle.places.specs.Sizes.{t64}
 use Rattle.places.proofs.Places.{size64}
 use Rattle.rows.specs.Rows.{shr_of, or_shl_of}
 use Rattle.rows.proofs.Blocks.{start-at, start_in}
-use Rattle.packing.specs.Packed.{unpack_of}
 use Rattle.deltas.proofs.Restores.{undelta-pack-is}
-use Rattle.deltas.proofs.Walks.{Summing, summing_none, summing_next, summing_all, unpacked_row}
+use Rattle.deltas.proofs.Walks.{summing_none, summing_next, summing_all, unpacked_row}
 use Rattle.bodies.specs.Bodies.{packed_from}
-use Rattle.bodies.proofs.Bytes.{Stands, stands-first, stands-lt, stands-room, stands-room_two, stands-next}
+use Rattle.bodies.proofs.Bytes.{stands-first, stands-lt, stands-room, stands-room_two, stands-next}
 use Rattle.bodies.proofs.Bytes.{ReadFrom, from_within, from_full, from_over}
 use Rattle.bodies.proofs.walks.summed_split.Goals as goal
-use Rattle.bodies.proofs.walks.summed_split.Goals.{In-loop-i, Joined-s-ge-T}
+use Rattle.bodies.proofs.walks.summed_split.Goals.{In-loop-i, Joined-s-ge-T, then-s-ge-T+then-s-gt0, then-s-ge-T+else-s-gt0, else-s-ge-T}
 
 pub loop-o-init : goal.loop-o-init
 loop-o-init c =
@@ -62,7 +60,7 @@ put_at-requires c =
 
 -- the row is read
 is_read : (c : Joined-s-ge-T)
-    →         ReadFrom c.args.width (c.loop-o.o * 8 + c.loop-i.i) c.args.body.now
+    → ReadFrom c.args.width (c.loop-o.o * 8 + c.loop-i.i) c.args.body.now
     c.if-s-ge-T.row c.if-s-ge-T.s c.if-s-ge-T.at
 is_read c =
     let body = c.args.body.now in
@@ -70,14 +68,15 @@ is_read c =
     let at = c.loop-i.invariant.1 in
     let hr = (let it : c.loop-o.o * 8 + c.loop-i.i < t64 = omega arith in it) in
     let first = c.shr-row.ensures ∙ ap (λ x. shr_of t64 x c.loop-i.s) c.row_of.ensures in
-    ⊎_elim
-    (λ two.
-    from_over hr c.requires.width_nonzero.0 c.requires.width_nonzero.1 at body fits first (omega arith) two.4 two.5
-    (two.6 ∙ two.3.ensures ∙ ap (λ x. or_shl_of t64 _ x _) two.2.ensures))
-    (⊎_elim
-    (λ full. from_full hr c.requires.width_nonzero.0 c.requires.width_nonzero.1 at body fits (full.4 ∙ first) (omega arith) full.2 full.3)
-    (λ on. from_within hr c.requires.width_nonzero.0 c.requires.width_nonzero.1 at body fits (on.3 ∙ first) on.0.left on.1 on.2))
-    c.if-s-ge-T.branch-raw
+    elim c.if-s-ge-T.branch [
+      | then-s-ge-T+then-s-gt0 w ↦
+          from_over hr c.requires.width_nonzero.0 c.requires.width_nonzero.1 at body fits first (omega arith) w.s-is w.at-is
+          (w.row-is ∙ w.or_shl-both.ensures ∙ ap (λ x. or_shl_of t64 _ x _) w.row_of-then-s-gt0.ensures)
+      | then-s-ge-T+else-s-gt0 w ↦
+          from_full hr c.requires.width_nonzero.0 c.requires.width_nonzero.1 at body fits (w.row-is ∙ first) (omega arith) w.s-is w.at-is
+      | else-s-ge-T w ↦
+          from_within hr c.requires.width_nonzero.0 c.requires.width_nonzero.1 at body fits (w.row-is ∙ first) w.if-s-ge-T.false w.s-is w.at-is
+    ]
 
 pub loop-i-preserved : goal.loop-i-preserved
 loop-i-preserved c =

@@ -1,24 +1,12 @@
 -- `bodies::walks::summed_split` meets its contract. The loops' invariants: the first rows hold their sums, prev is the
 -- last of them, and the walk stands where the next one begins.
 -- Assumes nothing.
-use mathlib.Core.Path.{◌≡◌, sym, ap, ◌∙◌}
-use mathlib.Core.Logic.{⊎_elim}
-use Prim.Native.Nat.{◌+◌, ◌-◌, ◌*◌, ◌/◌, ◌≤◌, ◌<◌}
-use native.Mathlib.Nat.{add-zero, add_assoc}
-use native.Mathlib.Omega.{arith}
-use lib.ListN.{length}
-use borrow.Author.Rules.{rules}
-use Rattle.lists.specs.Numbers.{Elements}
+use Prim.Native.Nat.{◌+◌, ◌-◌, ◌*◌, ◌/◌, ◌≤◌}
 use Rattle.places.specs.Sizes.{t64}
-use Rattle.places.proofs.Places.{size64}
-use Rattle.rows.specs.Rows.{shr_of, or_shl_of}
-use Rattle.rows.proofs.Blocks.{start-at, start_in}
 use Rattle.packing.specs.Packed.{unpack_of}
-use Rattle.deltas.proofs.Restores.{undelta-pack-is}
-use Rattle.deltas.proofs.Walks.{Summing, summing_none, summing_next, summing_all, unpacked_row}
+use Rattle.deltas.proofs.Walks.{Summing}
 use Rattle.bodies.specs.Bodies.{packed_from}
-use Rattle.bodies.proofs.Bytes.{Stands, stands-first, stands-lt, stands-room, stands-room_two, stands-next}
-use Rattle.bodies.proofs.Bytes.{ReadFrom, from_within, from_full, from_over}
+use Rattle.bodies.proofs.Bytes.{Stands}
 use Rattle.bodies.proofs.walks.summed_split.Given as goal
 
 abbrev pub invariant-loop-i : goal.invariant-loop-i
