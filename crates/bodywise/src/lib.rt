@@ -1,6 +1,8 @@
 // The walk over the bodies of a column file (R94, R95), for a program that holds the contents and one body at a time: a
 // cursor that says which body comes next and where it begins, how many bytes of a file are its front, and the check of
 // the file body by body. The front is the first bytes of the file, with the contents; the whole file is its own front.
+#![tactic(auto)]
+
 ghost use Rattle.std.specs.Prelude.{◌≡◌, [], ◌∷◌, ◌+◌, ◌*◌, min};
 ghost use Rattle.places.specs.Sizes.{largest_u64};
 ghost use Rattle.contents.specs.declared.FileAnswer.TheVariants.{Done};

@@ -6,6 +6,8 @@
 // A body is a list of words until it is chosen, and the chosen one alone becomes bytes. A program that has to know how
 // long all bodies are before it lays one down measures each block first (R106), and keeps of it the range and the width
 // of the differences: with these the block is laid down without being measured again.
+#![tactic(auto)]
+
 mod differences;
 
 ghost use Rattle.std.specs.Prelude.{◌≡◌, ◌+◌, ◌*◌, ◌≤◌, ◌++◌, length, take};

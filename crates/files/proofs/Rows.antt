@@ -16,7 +16,6 @@ use Rattle.places.specs.Sizes.{t64}
 use Rattle.packing.specs.Packed.{value_at}
 use Rattle.packing.proofs.Rounds.{value-zero}
 use Rattle.access.specs.declared.t64.Single.{Single}
-use Rattle.access.specs.declared.t64.Single.TheVariants as Single
 use Rattle.access.specs.t64 as single
 use Rattle.access.specs.Calls.{single, single_of}
 use Rattle.access.specs.Counts.{count_at, words_at}

@@ -6,6 +6,8 @@
 // smallest and largest value, and one block out lays its block down once more. A row is looked up in its body. The
 // calls whose names end in from are for a walk over the bodies, behind a check (R93): they look at one body, and check
 // nothing else.
+#![tactic(auto)]
+
 mod lookup;
 
 ghost use Rattle.std.specs.Prelude.{◌≡◌, ◌+◌, ◌<◌, true, [], ◌∷◌, length, ◌==◌, ◌≢◌, nat_le, nat_lt, slice_index};
