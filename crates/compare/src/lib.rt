@@ -1,5 +1,7 @@
 // What two column files differ in (R118, R126): the blocks that are in both files, and the places at which two blocks
 // differ, for a program that holds the contents and one block of each file at a time.
+#![tactic(auto)]
+
 ghost use Rattle.std.specs.Prelude.{◌≡◌, min, length, get_or};
 ghost use Rattle.lists.specs.Tab.{over};
 ghost use Rattle.contents.specs.Answers.{file_answer};

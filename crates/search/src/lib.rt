@@ -8,6 +8,8 @@
 //
 // A program that does not hold the file makes the same search by steps (R111): `opens` says by the contents which
 // bodies to read, and `rows_in` lists the rows of one block.
+#![tactic(auto)]
+
 ghost use Rattle.std.specs.Prelude.{◌≡◌, ◌+◌, ◌*◌, ◌<◌, ◌≤◌, true, false, map, length, take, nat_le};
 ghost use Rattle.lists.specs.Numbers.{plus};
 ghost use Rattle.lists.specs.Tab.{tab, over};

@@ -1,6 +1,8 @@
 // What is said of a block to a person (ours): its kind, width, reference and body bytes, as its entry has them, and its
 // smallest and largest value. These two are taken from the block itself, since the contents of an edition 1 file say
 // none; in a file of edition 2 that the reader accepts they are those that the entry says.
+#![tactic(auto)]
+
 ghost use Rattle.std.specs.Prelude.{◌≡◌};
 ghost use Rattle.contents.specs.Contents.{entry_or};
 ghost use Rattle.summary.specs.Summary.{summary_of, thousandths_of, marks_of, place_in};

@@ -3,6 +3,8 @@
 // before the first byte is written, so a refused call writes nothing. For that all blocks are measured first, and of
 // each three numbers are kept, by which it is laid down later: its smallest number, its largest, and the width of its
 // differences. The rooms for the three candidates are made once for a file.
+#![tactic(auto)]
+
 ghost use Rattle.std.specs.Prelude.{◌≡◌, ◌++◌, ◌+◌, ◌*◌, ◌≤◌, ◌<◌, length, set};
 ghost use Rattle.lists.specs.Tab.{over};
 ghost use Rattle.candidates.specs.Candidates.{chosen, body_for};
