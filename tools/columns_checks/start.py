@@ -70,7 +70,7 @@ def elsewhere(checks, run):
     shutil.copytree(ROOT / "include", place / "include")
     shutil.copy(ROOT / "VERSION", place / "VERSION")
     (place / "crates" / "exports").mkdir(parents=True)
-    (place / "crates.txt").write_text("exports:\n")
+    (place / "crates.txt").write_text("exports staticlib:\n")
     start = place / "tools" / "columns"
     if shutil.which("rt", path="/usr/bin:/bin"):
         not_tried("a start without the kit", "it is where the system's own commands are")
@@ -79,8 +79,8 @@ def elsewhere(checks, run):
         good = said.status == 2 and "the command rt, which proves it, is not on the PATH" in said.err
         checks.that("neither built nor a kit", good, str(said))
     time.sleep(0.05)
-    shutil.copytree(ROOT / "target" / "columns", place / "target" / "columns")
-    (place / "target" / "columns" / "start").touch()
+    shutil.copytree(ROOT / "out" / "columns", place / "out" / "columns")
+    (place / "out" / "columns" / "start").touch()
     data = (run.folder / "ours.col").read_bytes()
     as_told(
         checks,

@@ -43,7 +43,7 @@ def _places() -> Iterator[str]:
         yield said
         return
     here = pathlib.Path(__file__).resolve().parent
-    for place in (here.parents[3] / "lib" / SONAME, here.parents[2] / "target" / "install" / SHARED):
+    for place in (here.parents[3] / "lib" / SONAME, here.parents[2] / "out" / "install" / SHARED):
         if place.is_file():
             yield str(place)
     yield SONAME

@@ -15,7 +15,7 @@ from cases.dice import Dice  # noqa: E402
 from columns_checks import common as checks  # noqa: E402
 from models import files  # noqa: E402
 
-PROGRAM = os.environ.get("COLUMNS_PROGRAM", str(ROOT / "target" / "columns" / "columns"))
+PROGRAM = os.environ.get("COLUMNS_PROGRAM", str(ROOT / "out" / "columns" / "columns"))
 TOP = 2**64 - 1
 
 

@@ -1,5 +1,5 @@
 // The calls for programs in C and in Rust: each function hands one call on, under a name of its own in the archive that
-// `rt staticlib exports` writes. A slice is a pointer and a length there, and a `&mut` number a pointer to one.
+// `rt lib` writes. A slice is a pointer and a length there, and a `&mut` number a pointer to one.
 //
 // Each function gives the number of the call's answer, and the place and what else the call gives through lent numbers.
 // Its contract is that of the call, whole, and nothing is required of a caller but what the types say:

@@ -8,6 +8,8 @@
 //
 // A file that changes between the walks (R125): a body is tested again when it is read again, and no row is listed from
 // one that is refused then. The refusal of its file is the last line.
+#![tactic(auto)]
+
 mod text;
 
 ghost use Rattle.std.specs.Prelude.{true, ◌≡◌, ◌+◌, ◌≤◌, ◌<◌, min, length};

@@ -13,6 +13,8 @@
 // A number is looked up by halving. A block with no old number between its smallest and its largest is not replaced, and
 // one with no new number between them has none that is taken; where both hold, nothing is looked up. A block in which
 // nothing changes is measured once.
+#![tactic(auto)]
+
 mod pairs;
 
 ghost use Rattle.std.specs.Prelude.{◌≡◌, ◌++◌, ◌+◌, ◌*◌, ◌≤◌, ◌<◌, length, get_or, set};

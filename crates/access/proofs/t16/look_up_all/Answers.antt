@@ -44,7 +44,6 @@ pub returns-in_default : goal.returns-in_default
 returns-in_default c =
     absurd (never (goal.at.returns-in_default c).After-look_up-found _ c.in_default.is)
 
--- sizes: end
 pub bounds-output-i : goal.bounds-output-i
 bounds-output-i c = omega (arith, written-length c.loop-i.invariant.1)
 

@@ -11,7 +11,6 @@ use Rattle.packing.proofs.t64.clear.Goals as goal
 pub loop-i-init : goal.loop-i-init
 loop-i-init c = (search rules, written_none zero-le)
 
--- sizes: end
 pub bounds-values-i : goal.bounds-values-i
 bounds-values-i c = omega (arith, written-length c.loop-i.invariant.1)
 

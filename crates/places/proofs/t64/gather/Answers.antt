@@ -5,7 +5,7 @@ use Prim.Native.Nat.{◌+◌, ◌*◌, ◌<◌}
 use native.Mathlib.Omega.{arith}
 use lib.ListN.{length}
 use borrow.Author.Rules.{rules}
-use Rattle.lists.proofs.Tabs.{written_none, written_next, strided}
+use Rattle.lists.proofs.Tabs.{written_none, written_next, written-length, strided}
 use Rattle.places.proofs.t64.gather.Goals as goal
 use Rattle.places.proofs.t64.gather.Goals.{In-loop-k}
 
@@ -26,6 +26,13 @@ overflow_add-output c = omega (arith, within (goal.at.overflow_add-output c).In-
 -- sizes: not at t8
 pub offset_bounds-input-from : goal.offset_bounds-input-from
 offset_bounds-input-from c = omega (arith, within (goal.at.offset_bounds-input-from c).In-loop-k)
+
+-- sizes: end
+pub bounds-input-from : goal.bounds-input-from
+bounds-input-from c = within (goal.at.bounds-input-from c).In-loop-k
+
+pub bounds-output-to : goal.bounds-output-to
+bounds-output-to c = omega (arith, written-length c.loop-k.invariant.1)
 
 pub loop-k-preserved : goal.loop-k-preserved
 loop-k-preserved c = (omega arith, written_next c.loop-k.invariant.1 _ _ (omega arith) refl refl)

@@ -17,7 +17,6 @@ pub word_in-requires : goal.word_in-requires
 word_in-requires c =
     record { width_le_t16 = c.requires.width_le_t16; values_len = c.requires.values_len; lane_bound = (omega arith, omega arith) }
 
--- sizes: end
 pub bounds-packed-i : goal.bounds-packed-i
 bounds-packed-i c = omega (arith, written-length c.loop-i.invariant.1)
 

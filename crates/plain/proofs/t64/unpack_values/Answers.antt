@@ -15,7 +15,6 @@ pub value_at-requires : goal.value_at-requires
 value_at-requires c =
     record { width_le_t64 = c.requires.width_le_t64; packed_len = c.requires.packed_len; p_bound = c.loop-p-test.true }
 
--- sizes: end
 pub bounds-values-p : goal.bounds-values-p
 bounds-values-p c = omega (arith, written-length c.loop-p.invariant.1)
 

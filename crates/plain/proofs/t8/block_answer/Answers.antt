@@ -17,4 +17,5 @@ returns-then-packed-words c =
     sym (bad_packed t8 _ _ _ c.if-width-gt-T.false c.if-values-ne1024.false c.if-packed-words.true)
 
 pub returns : goal.returns
-returns c = sym (good t8 _ _ _ c.if-width-gt-T.false c.if-values-ne1024.false c.if-packed-words.false)
+returns c =
+    sym (good t8 _ _ _ c.if-width-gt-T.false c.if-values-ne1024.false c.if-packed-words.false)

@@ -2,7 +2,7 @@
 -- Assumes nothing.
 use Rattle.std.proofs.Common.{◌≡◌, length, sym, refl, ap, ◌∙◌, zero-add, arith, rules}
 use Rattle.lists.specs.Tab.{over}
-use Rattle.lists.proofs.Tabs.{tab_get_d, written_none, written_next}
+use Rattle.lists.proofs.Tabs.{tab_get_d, written_none, written-length, written_next}
 use Rattle.places.specs.Sizes.{t64, lanes}
 use Rattle.rows.proofs.Rows.{store_short, store-room}
 use Rattle.rows.proofs.t64.store.Goals as goal
@@ -18,6 +18,9 @@ returns-then-out-lt-LANES c =
 
 pub loop-l-init : goal.loop-l-init
 loop-l-init c = (search rules, written_none (omega arith))
+
+pub bounds-out-l : goal.bounds-out-l
+bounds-out-l c = omega (arith, written-length c.loop-l.invariant.1)
 
 pub loop-l-preserved : goal.loop-l-preserved
 loop-l-preserved c = (omega arith, written_next c.loop-l.invariant.1 _ _ (omega arith) (sym (zero-add _)) refl)

@@ -40,7 +40,6 @@ offset_bounds-dictionary-index c = omega (arith, within (goal.at.offset_bounds-d
 pub bounds-dictionary-index : goal.bounds-dictionary-index
 bounds-dictionary-index c = within (goal.at.bounds-dictionary-index c).In-loop-i
 
--- sizes: end
 pub bounds-output-p : goal.bounds-output-p
 bounds-output-p c =
     omega (arith, written-length c.loop-i.invariant.1, written-length c.loop-o.invariant.1)

@@ -1,0 +1,17 @@
+-- `listing::pass_same` meets its contract, by the answer to the body.
+-- Assumes nothing.
+use mathlib.Core.Path.{sym, ap, ap₂, ◌∙◌}
+use Rattle.listing.specs.Machine.{turn_of, between}
+use Rattle.listing.proofs.Same.{same_bad, same_good}
+use Rattle.listing.proofs.pass_same.Goals as goal
+
+pub returns-then-number-ne0 : goal.returns-then-number-ne0
+returns-then-number-ne0 c =
+    let args = c.args in
+    let is = same_bad args.state args.left_front.now args.right_front.now args.left_body.now args.out.now c.check_body-answer.ensures (λ z. c.if-number-ne0.true (c.number.ensures ∙ z)) in
+    record { value = c.refuse.ensures.value ∙ sym (ap turn_of is); out_after = c.refuse.ensures.out_after ∙ sym (ap (λ g. g.out) is) }
+
+pub returns : goal.returns
+returns c =
+    let args = c.args in
+    let is = same_good args.state args.left_front.now args.right_front.now args.left_body.now args.out.now c.check_body-answer.ensures (sym c.number.ensures ∙ c.if-number-ne0.false) in record { value = c.between.ensures ∙ ap₂ (λ t k. between t k 0) c.past-there.ensures c.plus.ensures ∙ sym (ap turn_of is); out_after = sym (ap (λ g. g.out) is) }
