@@ -4,11 +4,9 @@
 use Rattle.contents.specs.declared.FileAnswer.{FileAnswer}
 use Rattle.contents.specs.declared.FileAnswer.TheVariants.{Done}
 use Rattle.writer.specs.declared.Written.{Written}
-use Rattle.writer.specs.declared.Written.TheVariants as Written
 use Rattle.renumber.specs.declared.RenumberAnswer.{RenumberAnswer}
 use Rattle.renumber.specs.declared.RenumberAnswer.TheVariants.{File, Lengths, Unrising, Disordered, Twice, Taken}
 use Rattle.renumber.specs.declared.Renumbered.{Renumbered}
-use Rattle.renumber.specs.declared.Renumbered.TheVariants as Renumbered
 
 -- This is the file's own answer; where the lists or a row are refused there is none, and that it is done stands for it.
 abbrev pub own_answer : RenumberAnswer → FileAnswer

@@ -1,6 +1,8 @@
 // A readable column file, of either edition and of any kinds, is rewritten as the writer would write its rows (R112 to
 // R114). This is a renumbering without pairs: no row is listed, so each stays, and the walk over the file, its refusals
 // and its room are those of `renumber`.
+#![tactic(auto)]
+
 ghost use Rattle.std.specs.Prelude.{◌≡◌};
 ghost use Rattle.rewrite.specs.InnerPairless.{own_answer, as_written};
 ghost use Rattle.rewrite.specs.Rewrite.{rewritten_of, rewrite_leaves};

@@ -2,6 +2,8 @@
 // a width does damage that is too narrow for its numbers, dates are transposed before their differences are taken, and
 // a column file is written and read. The program reads nothing. What it must write stands in crates/tour/stdout, worked
 // out by hand from the rules (docs/RULES.md).
+#![tactic(auto)]
+
 use access::t8::Single;
 use contents::FileAnswer;
 use files::Row;
