@@ -3,7 +3,6 @@
 use mathlib.Core.List.{List, [], ◌∷◌, ◌++◌}
 use Prim.Native.Nat.{ℕ, zero, suc, ◌<◌}
 use native.Mathlib.Omega.{arith}
-use lib.ListN.{length}
 use Rattle.lists.specs.Parts.{joined}
 use Rattle.little.specs.Little.{bytes_of, all_bytes}
 use Rattle.little.proofs.Bytes.{bytes_small, all_small, below_append}

@@ -4,6 +4,8 @@
 // tests, and kind, width, length and reference. Nothing is packed again. Unpacking and packing at one width restores
 // every word, so a body whose entry is the writer's is the writer's body; of a body of differences the base is looked
 // at as well.
+#![tactic(auto)]
+
 ghost use Rattle.std.specs.Prelude.{◌≡◌, true, [], ◌∷◌, ◌≤◌, ◌<◌, eqb, length};
 ghost use Rattle.lists.specs.Pick.{pick, both};
 ghost use Rattle.contents.specs.declared.FileAnswer.TheVariants.{Done, Range as FalseRange, Foreign};
