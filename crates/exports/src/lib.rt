@@ -5,6 +5,8 @@
 // Its contract is that of the call, whole, and nothing is required of a caller but what the types say:
 // docs/DECISIONS.md has what that is at this boundary. The calls on blocks have a module for each element size; what
 // the sizes share stands here.
+#![tactic(auto)]
+
 pub mod chunks;
 pub mod columns;
 pub mod machine;

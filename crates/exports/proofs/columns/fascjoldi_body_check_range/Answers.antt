@@ -1,0 +1,8 @@
+-- `fascjoldi_body_check_range` gives and leaves what `check_block` does.
+-- Assumes nothing.
+use borrow.Author.Rules.{rules}
+use Rattle.exports.proofs.FileHanded.{file_on_lem}
+use Rattle.exports.proofs.columns.fascjoldi_body_check_range.Goals as goal
+
+pub returns : goal.returns
+returns c = search (rules, file_on_lem)

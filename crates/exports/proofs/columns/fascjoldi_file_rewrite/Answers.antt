@@ -1,0 +1,8 @@
+-- `fascjoldi_file_rewrite` gives and leaves what `rewrite` does.
+-- Assumes nothing.
+use borrow.Author.Rules.{rules}
+use Rattle.exports.proofs.FileHanded.{written_on}
+use Rattle.exports.proofs.columns.fascjoldi_file_rewrite.Goals as goal
+
+pub returns : goal.returns
+returns c = search (rules, written_on)

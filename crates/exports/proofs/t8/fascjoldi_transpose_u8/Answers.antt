@@ -1,0 +1,9 @@
+-- Written by tools/sizes from the text of size 64: edit that one, and run tools/sizes.
+-- `fascjoldi_transpose_u8` gives and leaves what `transpose` does.
+-- Assumes nothing.
+use borrow.Author.Rules.{rules}
+use Rattle.exports.proofs.Handed.{handed_on}
+use Rattle.exports.proofs.t8.fascjoldi_transpose_u8.Goals as goal
+
+pub returns : goal.returns
+returns c = search (rules, handed_on)
