@@ -5,7 +5,7 @@ ghost use Rattle.lists.specs.Numbers.{minus};
 ghost use Rattle.lists.specs.Tab.{tab, over};
 ghost use Rattle.places.specs.Sizes.{t64, lanes};
 ghost use Rattle.packing.specs.Packed.{pack_of};
-ghost use Rattle.candidates.specs.Candidates.{differences as differencesOf};
+ghost use Rattle.candidates.specs.Candidates.{differences as differences_of};
 ghost use Rattle.candidates.specs.Widths.{bits, width_of};
 
 use places::{next_start, row_start};
@@ -21,7 +21,7 @@ const LANES: usize = 16;
 // last of eight the next row stands where the order list says. The base is row 0, so there is no other.
 pub fn step_bits(values: &[u64]) -> u64
     requires { length values.now ≡ 1024 }
-    ensures { bits result ≡ width_of (differencesOf values.now) }
+    ensures { bits result ≡ width_of (differences_of values.now) }
 {
     let mut any: u64 = 0;
     let mut p = 0;
@@ -59,7 +59,7 @@ pub fn pack_steps(width: usize, values: &[u64], packed: &mut [u64])
     requires width_bound { width ≤ 64 }
     requires values_len { length values.now ≡ 1024 }
     requires packed_len { length packed.old ≡ 16 * width }
-    ensures { packed.new ≡ pack_of t64 width (differencesOf values.now) }
+    ensures { packed.new ≡ pack_of t64 width (differences_of values.now) }
 {
     match width {
         0 => {}
@@ -74,7 +74,7 @@ fn steps_split(width: usize, values: &[u64], packed: &mut [u64])
     requires width_nonzero { (0 < width) × (width < t64) }
     requires values_len { length values.now ≡ 1024 }
     requires packed_len { length packed.old ≡ lanes t64 * width }
-    ensures { packed.new ≡ pack_of t64 width (differencesOf values.now) }
+    ensures { packed.new ≡ pack_of t64 width (differences_of values.now) }
 {
     let most = T - width;
     let mut held = splat(0);
@@ -128,7 +128,7 @@ fn steps_split(width: usize, values: &[u64], packed: &mut [u64])
 fn steps_copy(values: &[u64], packed: &mut [u64])
     requires values_len { length values.now ≡ 1024 }
     requires packed_len { length packed.old ≡ 1024 }
-    ensures { packed.new ≡ pack_of t64 t64 (differencesOf values.now) }
+    ensures { packed.new ≡ pack_of t64 t64 (differences_of values.now) }
 {
     let mut before = 0;
     let mut start = 0;

@@ -18,7 +18,7 @@ ghost use Rattle.deltas.specs.Deltas.{for_pack_of};
 ghost use Rattle.little.specs.Little.{write_leaves};
 ghost use Rattle.contents.specs.Answers.{file_answer};
 ghost use Rattle.candidates.specs.Calls.{entry_for, laid_of, lay_leaves, answer_of, entry_laid, range_laid, measured_of, entry_with, is_ready, by_tests, plain_leaves, frame_leaves, steps_leaves, by_leaves};
-ghost use Rattle.candidates.specs.Candidates.{packed_entry, base_of, differences as differencesOf};
+ghost use Rattle.candidates.specs.Candidates.{packed_entry, base_of, differences as differences_of};
 ghost use Rattle.candidates.specs.Measures.{widths_by, entry_by, shorter_entry, shorter_part};
 ghost use Rattle.candidates.specs.Widths.{bits};
 
@@ -287,7 +287,7 @@ fn fill_steps(width: usize, values: &[u64], words: &mut [u64])
     requires values_len { length values.now ≡ 1024 }
     requires width_in_bounds { 16 + 16 * width ≤ length words.old }
     ensures { words.new
-        ≡ over 0 (base_of values.now ++ pack_of t64 width (differencesOf values.now)) words.old }
+        ≡ over 0 (base_of values.now ++ pack_of t64 width (differences_of values.now)) words.old }
 {
     store(words, load(values));
     let end = 16 + 16 * width;

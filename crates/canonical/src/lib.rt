@@ -10,7 +10,7 @@ ghost use Rattle.std.specs.Prelude.{◌≡◌, true, [], ◌∷◌, ◌≤◌, �
 ghost use Rattle.lists.specs.Pick.{pick, both};
 ghost use Rattle.contents.specs.declared.FileAnswer.TheVariants.{Done, Range as FalseRange, Foreign};
 ghost use Rattle.contents.specs.Answers.{file_answer};
-ghost use Rattle.contents.specs.Contents.{edition as editionIn, count as countIn, body_start};
+ghost use Rattle.contents.specs.Contents.{edition as edition_in, count as count_in, body_start};
 ghost use Rattle.bodies.specs.Bodies.{words_from};
 ghost use Rattle.candidates.specs.Candidates.{chosen, base_of};
 ghost use Rattle.files.specs.Files.{block_in, has_true_range, bad_range, runs_tests};
@@ -46,15 +46,15 @@ pub fn check(file: &[u8]) -> FileAnswer
 // it comes first, in whatever block it is.
 fn check_blocks(file: &[u8]) -> FileAnswer
     requires file_value { file_answer (runs_tests file.now) ≡ Done }
-    requires file_value_2 { editionIn file.now ≡ 2 }
+    requires file_value_2 { edition_in file.now ≡ 2 }
     ensures { result
         ≡ file_answer
         ((
-          eqb (bad_range file.now) (countIn file.now),
+          eqb (bad_range file.now) (count_in file.now),
           FalseRange
               (bad_range file.now),
         ) ∷ (
-          eqb (foreign file.now) (countIn file.now),
+          eqb (foreign file.now) (count_in file.now),
           Foreign
               (foreign file.now),
         ) ∷ []) }
@@ -94,8 +94,8 @@ fn lower(lowest: usize, n: usize, ours: bool, number: usize) -> usize
 // Lays block i down, whose body begins at `at`, and looks at it.
 fn look(file: &[u8], i: usize, at: usize, block: &mut [u64]) -> Seen
     requires file_value { file_answer (runs_tests file.now) ≡ Done }
-    requires file_value_2 { editionIn file.now ≡ 2 }
-    requires i_bound { i < countIn file.now }
+    requires file_value_2 { edition_in file.now ≡ 2 }
+    requires i_bound { i < count_in file.now }
     requires at_value { at ≡ body_start file.now i }
     requires block_len { length block.old ≡ 1024 }
     ensures ranged_value { result.ranged ≡ has_true_range file.now i }
@@ -114,7 +114,7 @@ fn look(file: &[u8], i: usize, at: usize, block: &mut [u64]) -> Seen
 // Whether block i is as our writer would write it, which would give it this entry.
 fn is_ours(file: &[u8], i: usize, at: usize, entry: Entry, block: &[u64]) -> bool
     requires file_value { file_answer (runs_tests file.now) ≡ Done }
-    requires i_bound { i < countIn file.now }
+    requires i_bound { i < count_in file.now }
     requires at_value { at ≡ body_start file.now i }
     requires value { entry ≡ (chosen (block_in file.now i)).entry }
     requires block_value { block.now ≡ block_in file.now i }

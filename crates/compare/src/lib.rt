@@ -6,7 +6,7 @@ ghost use Rattle.std.specs.Prelude.{◌≡◌, min, length, get_or};
 ghost use Rattle.lists.specs.Tab.{over};
 ghost use Rattle.contents.specs.Answers.{file_answer};
 ghost use Rattle.contents.specs.Contents.{count_or};
-ghost use Rattle.compare.specs.Changes.{differing as differingIn, differing_tests, compared_of, differing_leaves, answer_of, count_of, change_at};
+ghost use Rattle.compare.specs.Changes.{differing as differing_in, differing_tests, compared_of, differing_leaves, answer_of, count_of, change_at};
 ghost use Rattle.compare.specs.InnerSame.{same_of};
 ghost use Rattle.compare.specs.Ranges.{same_range};
 
@@ -126,9 +126,9 @@ fn list_places(left: &[u64], right: &[u64], places: &mut [u16]) -> usize
     requires left_len { length left.now ≡ 1024 }
     requires right_len { length right.now ≡ 1024 }
     requires places_len { length places.old ≡ 1024 }
-    ensures value { result ≡ length (differingIn left.now right.now) }
+    ensures value { result ≡ length (differing_in left.now right.now) }
     ensures places_after { places.new
-        ≡ over 0 (differingIn left.now right.now) places.old }
+        ≡ over 0 (differing_in left.now right.now) places.old }
 {
     let mut n = 0;
     let mut i = 0;

@@ -9,7 +9,7 @@
 ghost use Rattle.std.specs.Prelude.{◌≡◌, ◌+◌, ◌*◌, ◌≤◌, ◌<◌, leb, length};
 ghost use Rattle.lists.specs.Search.{first_bad};
 ghost use Rattle.contents.specs.Answers.{number_of, place_of, file_answer};
-ghost use Rattle.contents.specs.Contents.{edition as editionIn, count as countIn, contents_size, entry_size, entry_at, entry_or, range_at_lem, range_or, any_range, range_of as rangeIn, no_entry, edition_or, count_or, is_packed, is_runs, is_of_kind, is_laid_out, is_ordered, is_right, has_right_entry, bodies_size, entries_tests, contents_tests};
+ghost use Rattle.contents.specs.Contents.{edition as edition_in, count as count_in, contents_size, entry_size, entry_at, entry_or, range_at_lem, range_or, any_range, range_of as range_in, no_entry, edition_or, count_or, is_packed, is_runs, is_of_kind, is_laid_out, is_ordered, is_right, has_right_entry, bodies_size, entries_tests, contents_tests};
 ghost use Rattle.contents.specs.Bytes.{head_leaves, first_leaves, entry_leaves};
 
 use little::{pair, put_pair, put_quad, put_word, quad, word};
@@ -285,9 +285,9 @@ fn range_at(front: &[u8], at: usize) -> Range
 
 // The range of entry i, which is there.
 fn range_of(front: &[u8], edition: usize, i: usize) -> Range
-    requires edition_value { edition ≡ editionIn front.now }
+    requires edition_value { edition ≡ edition_in front.now }
     requires i_in_bounds { contents_size edition (i + 1) ≤ length front.now }
-    ensures { result ≡ rangeIn front.now i }
+    ensures { result ≡ range_in front.now i }
 {
     if edition == 2 {
         return range_at(front, contents_size(edition, i) + 16);
@@ -363,8 +363,8 @@ pub fn check(front: &[u8], size: usize) -> FileAnswer
 
 // The same from the entries on, which are there.
 fn check_entries(front: &[u8], edition: usize, n: usize, size: usize) -> FileAnswer
-    requires edition_value { edition ≡ editionIn front.now }
-    requires n_value { n ≡ countIn front.now }
+    requires edition_value { edition ≡ edition_in front.now }
+    requires n_value { n ≡ count_in front.now }
     requires n_bound { n ≤ 256 }
     requires n_in_bounds { contents_size edition n ≤ length front.now }
     ensures { result ≡ file_answer (entries_tests front.now size) }
@@ -385,7 +385,7 @@ fn check_entries(front: &[u8], edition: usize, n: usize, size: usize) -> FileAns
 
 // The lowest of n entries that is not right; n where there is none.
 fn bad_entry(front: &[u8], edition: usize, n: usize) -> usize
-    requires edition_value { edition ≡ editionIn front.now }
+    requires edition_value { edition ≡ edition_in front.now }
     requires n_in_bounds { contents_size edition n ≤ length front.now }
     ensures { result ≡ first_bad n (is_right front.now) }
 {
@@ -407,7 +407,7 @@ fn bad_entry(front: &[u8], edition: usize, n: usize) -> usize
 
 // Whether entry i, which is there and begins at `at`, is right. In edition 1 it may be of any kind, and says no range.
 fn is_right(front: &[u8], edition: usize, i: usize, at: usize) -> bool
-    requires edition_value { edition ≡ editionIn front.now }
+    requires edition_value { edition ≡ edition_in front.now }
     requires at_value { at ≡ contents_size edition i }
     requires i_in_bounds { contents_size edition (i + 1) ≤ length front.now }
     ensures { result ≡ is_right front.now i }
@@ -421,7 +421,7 @@ fn is_right(front: &[u8], edition: usize, i: usize, at: usize) -> bool
 
 // How many bytes the bodies of the first n entries have.
 fn bodies_of(front: &[u8], edition: usize, n: usize) -> usize
-    requires edition_value { edition ≡ editionIn front.now }
+    requires edition_value { edition ≡ edition_in front.now }
     requires n_in_bounds { contents_size edition n ≤ length front.now }
     requires n_bound { n ≤ 256 }
     ensures { (result ≡ bodies_size front.now n) × (result ≤ 4294967296 * n) }

@@ -12,7 +12,7 @@ ghost use Rattle.rewrite.specs.Rewrite.{rewritten_of, rewrite_leaves};
 ghost use Rattle.renumber.specs.Renumber.{renumbered_of, renumber_leaves};
 ghost use Rattle.canonical.specs.Canonical.{canonical_tests};
 ghost use Rattle.bodywise.specs.Cursor.{body_at, first_body, next_body};
-ghost use Rattle.bodywise.specs.Steps.{front_size, held_tests as body_tests, held_leaves as bodyLeaves, range_tests};
+ghost use Rattle.bodywise.specs.Steps.{front_size, held_tests as body_tests, held_leaves as body_leaves, range_tests};
 ghost use Rattle.compare.specs.Changes.{compared_of, differing_leaves};
 ghost use Rattle.compare.specs.Ranges.{same_range};
 ghost use Rattle.exports.specs.FileHanded.{FileHanded, row_words_lem, RowHanded, WrittenHanded, RenumberedHanded, FoundHanded, ComparedHanded, EntryHanded, RangeHanded, BodyHanded};
@@ -263,7 +263,7 @@ pub extern "C" fn fascjoldi_body_block_out(
     ensures file_handed { FileHanded (file_answer (body_tests front.now block body.now output.old)) result
         place.new }
     ensures output_after { output.new
-        ≡ bodyLeaves front.now block body.now output.old }
+        ≡ body_leaves front.now block body.now output.old }
 {
     hand(bodywise::held_block(front, block, body, output), place)
 }

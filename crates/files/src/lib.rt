@@ -17,7 +17,7 @@ ghost use Rattle.places.specs.Sizes.{t64};
 ghost use Rattle.access.specs.Counts.{count_at};
 ghost use Rattle.contents.specs.declared.FileAnswer.TheVariants.{Done, Runs, Range};
 ghost use Rattle.contents.specs.Answers.{file_answer, number_of};
-ghost use Rattle.contents.specs.Contents.{edition as editionIn, count as countIn, entry_of, entry_or, range_or, has_right_entry, body_start, contents_tests, ContentsTaken, is_laid_out};
+ghost use Rattle.contents.specs.Contents.{edition as edition_in, count as count_in, entry_of, entry_or, range_or, has_right_entry, body_start, contents_tests, ContentsTaken, is_laid_out};
 ghost use Rattle.bodies.specs.Bodies.{block_of, has_good_runs};
 ghost use Rattle.bodies.specs.Ranges.{is_range};
 ghost use Rattle.files.specs.declared.Row.TheVariants.{Counted, Uncounted, Refused};
@@ -47,7 +47,7 @@ fn check_ranges(file: &[u8]) -> FileAnswer
     requires { file_answer (runs_tests file.now) ≡ Done }
     ensures { result
         ≡ file_answer
-        (((bad_range file.now == countIn file.now), Range (bad_range file.now)) ∷
+        (((bad_range file.now == count_in file.now), Range (bad_range file.now)) ∷
         []) }
 {
     if edition(file) != 2 {
@@ -65,7 +65,7 @@ fn check_ranges(file: &[u8]) -> FileAnswer
 // right up to its run indices.
 fn false_range(file: &[u8]) -> usize
     requires file_value { file_answer (runs_tests file.now) ≡ Done }
-    requires file_value_2 { editionIn file.now ≡ 2 }
+    requires file_value_2 { edition_in file.now ≡ 2 }
     ensures { result ≡ bad_range file.now }
 {
     let n = count(file);
@@ -95,9 +95,9 @@ pub fn check_runs(file: &[u8]) -> FileAnswer
 fn check_but(file: &[u8], b: usize) -> FileAnswer
     ensures value { (number_of result ≢ 0) → result ≡ file_answer (runs_tests file.now) }
     ensures file_value { number_of result ≡ 0 → file_answer (contents_tests file.now (length file.now)) ≡ Done }
-    ensures i_value { number_of result ≡ 0 → first_bad (countIn file.now)
+    ensures i_value { number_of result ≡ 0 → first_bad (count_in file.now)
         (λ i. either (i == b) (has_good_runs (entry_of file.now i) (body_of file.now i))) ≡
-        countIn file.now }
+        count_in file.now }
 {
     let answer = contents::check(file, file.len());
     if answer.number() != 0 {
@@ -121,7 +121,7 @@ fn check_but(file: &[u8], b: usize) -> FileAnswer
 fn first_bad_but(file: &[u8], b: usize) -> usize
     requires { ContentsTaken file.now }
     ensures { result
-        ≡ first_bad (countIn file.now)
+        ≡ first_bad (count_in file.now)
         (λ i. either (i == b) (has_good_runs (entry_of file.now i) (body_of file.now i))) }
 {
     let n = count(file);
@@ -194,7 +194,7 @@ pub fn is_true_in(file: &[u8], i: usize, at: usize, block: &mut [u64]) -> bool
 // Where body b begins, in a file whose contents are right.
 fn body_start(file: &[u8], b: usize) -> usize
     requires contents_taken { ContentsTaken file.now }
-    requires b_bound { b < countIn file.now }
+    requires b_bound { b < count_in file.now }
     ensures { result ≡ body_start file.now b }
 {
     let mut body = bodywise::first(file);
@@ -228,10 +228,10 @@ pub fn block_out(file: &[u8], b: usize, output: &mut [u64]) -> FileAnswer
 fn check_for(file: &[u8], b: usize) -> FileAnswer
     ensures value { (number_of result ≢ 0) → result ≡ file_answer (file_tests file.now) }
     ensures file_value { number_of result ≡ 0 → file_answer (contents_tests file.now (length file.now)) ≡ Done }
-    ensures i_value { number_of result ≡ 0 → first_bad (countIn file.now)
+    ensures i_value { number_of result ≡ 0 → first_bad (count_in file.now)
         (λ i. either (i == b) (has_good_runs (entry_of file.now i) (body_of file.now i))) ≡
-        countIn file.now }
-    ensures file_value_2 { number_of result ≡ 0 → bad_range file.now ≡ countIn file.now }
+        count_in file.now }
+    ensures file_value_2 { number_of result ≡ 0 → bad_range file.now ≡ count_in file.now }
 {
     if edition(file) != 2 {
         return check_but(file, b);
@@ -243,7 +243,7 @@ fn check_for(file: &[u8], b: usize) -> FileAnswer
 // writes nothing.
 fn lay_numbered(file: &[u8], b: usize, output: &mut [u64]) -> FileAnswer
     requires contents_taken { ContentsTaken file.now }
-    requires b_bound { b < countIn file.now }
+    requires b_bound { b < count_in file.now }
     requires output_len { length output.old ≡ 1024 }
     ensures value { result
         ≡ pick (has_good_runs (entry_of file.now b) (body_of file.now b)) Done (Runs b) }

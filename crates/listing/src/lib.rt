@@ -15,11 +15,11 @@ mod text;
 ghost use Rattle.std.specs.Prelude.{true, ◌≡◌, ◌+◌, ◌≤◌, ◌<◌, min, length};
 ghost use Rattle.lists.specs.Tab.{over};
 ghost use Rattle.places.specs.Sizes.{largest_u64};
-ghost use Rattle.compare.specs.Changes.{differing as differingIn, changes_in};
+ghost use Rattle.compare.specs.Changes.{differing as differing_in, changes_in};
 ghost use Rattle.wishes.specs.Runs.{held};
 ghost use Rattle.listing.specs.InnerSame.{SameBody, same_laid};
 ghost use Rattle.listing.specs.Text.{lines_of};
-ghost use Rattle.listing.specs.Machine.{turn_of, turn_to, refusal, start_of, most_turns, ask_head, ask_front, body_wish, at_body_lem, at_bodies, between as betweenBlocks, past as pastBlock, ask_body, behind as behindFile, go_to, check_front, check_body, after_head, after_front, after_body, begin as beginning, go_on, ask_again, listed, compared, both_laid, both_there, again as afterAgain, next_of};
+ghost use Rattle.listing.specs.Machine.{turn_of, turn_to, refusal, start_of, most_turns, ask_head, ask_front, body_wish, at_body_lem, at_bodies, between as between_blocks, past as past_block, ask_body, behind as behind_file, go_to, check_front, check_body, after_head, after_front, after_body, begin as beginning, go_on, ask_again, listed, compared, both_laid, both_there, again as after_again, next_of};
 
 use bodywise::{Body, body_at, check_block, first, front_length, held_block, row_count, step};
 use compare::{blocks_in_both, change_at, differing, same_range};
@@ -349,7 +349,7 @@ fn at_bodies(state: State, number: usize, left_at: usize, right_at: usize) -> St
 
 // The same with so many rows before the block that differ, with the wish to write so many bytes.
 fn between(state: State, differences: u64, bytes: usize) -> Turn
-    ensures { result ≡ betweenBlocks state differences bytes }
+    ensures { result ≡ between_blocks state differences bytes }
 {
     let left = state.left;
     let right = state.right;
@@ -379,7 +379,7 @@ fn body_wish(side: Side, body: Body) -> Wish
 
 // Behind the left file the right one is checked, and behind that both are.
 fn behind(state: State, side: Side) -> Turn
-    ensures { result ≡ behindFile state side }
+    ensures { result ≡ behind_file state side }
 {
     match side {
         Side::Left => ask_head(state, Side::Right),
@@ -439,10 +439,10 @@ fn again(
 ) -> Turn
     requires { 65536 ≤ length out.old }
     ensures value { result
-        ≡ turn_of (afterAgain state side left_front.now right_front.now
+        ≡ turn_of (after_again state side left_front.now right_front.now
         left_body.now right_body.now out.old) }
     ensures out_after { out.new
-        ≡ (afterAgain state side left_front.now right_front.now left_body.now
+        ≡ (after_again state side left_front.now right_front.now left_body.now
         right_body.now out.old).out }
 {
     match side {
@@ -660,9 +660,9 @@ fn list(
     out: &mut [u8],
 ) -> Turn
     requires in_bounds { 65536 ≤ length out.old }
-    requires n_value { n ≡ length (differingIn left.now right.now) }
+    requires n_value { n ≡ length (differing_in left.now right.now) }
     requires n_in_bounds { n ≤ length places.now }
-    requires places_value { over 0 (differingIn left.now right.now) places.now ≡ places.now }
+    requires places_value { over 0 (differing_in left.now right.now) places.now ≡ places.now }
     requires number_bound { state.number < 65536 }
     ensures value { result
         ≡ turn_of (listed state left_front.now right_front.now left.now
@@ -678,7 +678,7 @@ fn list(
 
 // The state behind the block.
 fn past(state: State, left_front: &[u8], right_front: &[u8]) -> State
-    ensures { result ≡ pastBlock state left_front.now right_front.now }
+    ensures { result ≡ past_block state left_front.now right_front.now }
 {
     let left = bodywise::next(left_front, body_at(left_front, state.number, state.left.at));
     let right = bodywise::next(
@@ -691,9 +691,9 @@ fn past(state: State, left_front: &[u8], right_front: &[u8]) -> State
 // A line for each of the n places of block i that differ.
 fn put_lines(i: u16, left: &[u64], right: &[u64], places: &[u16], n: usize, out: &mut [u8]) -> usize
     requires in_bounds { 65536 ≤ length out.old }
-    requires n_value { n ≡ length (differingIn left.now right.now) }
+    requires n_value { n ≡ length (differing_in left.now right.now) }
     requires n_in_bounds { n ≤ length places.now }
-    requires places_value { over 0 (differingIn left.now right.now) places.now ≡ places.now }
+    requires places_value { over 0 (differing_in left.now right.now) places.now ≡ places.now }
     ensures value { result ≡ length (lines_of (changes_in i left.now right.now)) }
     ensures out_after { out.new
         ≡ over 0 (lines_of (changes_in i left.now right.now)) out.old }

@@ -24,7 +24,7 @@ ghost use Rattle.lists.specs.Tab.{over};
 ghost use Rattle.contents.specs.declared.FileAnswer.TheVariants.{Done};
 ghost use Rattle.contents.specs.Answers.{file_answer, is_done};
 ghost use Rattle.contents.specs.Bytes.{entry_bytes};
-ghost use Rattle.contents.specs.Contents.{count as countIn, contents_size, body_start};
+ghost use Rattle.contents.specs.Contents.{count as count_in, contents_size, body_start};
 ghost use Rattle.bodies.specs.Ranges.{true_range};
 ghost use Rattle.candidates.specs.Calls.{measured_of};
 ghost use Rattle.candidates.specs.Candidates.{chosen, body_for};
@@ -269,7 +269,7 @@ fn measure_one(
     counts: &mut [u64],
 ) -> Found
     requires file_value { file_answer (runs_tests file.now) ≡ Done }
-    requires i_bound { i < countIn file.now }
+    requires i_bound { i < count_in file.now }
     requires from_value { from ≡ body_start file.now i }
     requires paired { Paired old.now new.now order.now }
     requires block_len { length block.old ≡ 1024 }
@@ -302,7 +302,7 @@ fn measure_one(
 // Whether entry i says this range. In edition 1 it says none, and the answer is yes.
 fn is_told(file: &[u8], i: usize, range: Range) -> bool
     requires file_value { file_answer (runs_tests file.now) ≡ Done }
-    requires i_bound { i < countIn file.now }
+    requires i_bound { i < count_in file.now }
     requires range_value { range ≡ true_range (block_in file.now i) }
     ensures { result ≡ has_true_range file.now i }
 {
@@ -418,8 +418,8 @@ fn lay_blocks(
     requires file_in_bounds { length (new_file old.now new.now file.now) ≤ length output.old }
     ensures { output.new
         ≡ over 4 (entries_for (new_rows old.now new.now file.now)
-        (countIn file.now) ++ bodies_for
-        (new_rows old.now new.now file.now) (countIn file.now))
+        (count_in file.now) ++ bodies_for
+        (new_rows old.now new.now file.now) (count_in file.now))
         output.old }
 {
     let n = count(file);
@@ -457,7 +457,7 @@ fn new_block(
     block: &mut [u64],
 )
     requires file_taken { FileTaken file.now }
-    requires i_bound { i < countIn file.now }
+    requires i_bound { i < count_in file.now }
     requires from_value { from ≡ body_start file.now i }
     requires rising { Rising old.now }
     requires len { length new.now ≡ length old.now }

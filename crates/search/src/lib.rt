@@ -14,7 +14,7 @@ ghost use Rattle.std.specs.Prelude.{◌≡◌, ◌+◌, ◌*◌, ◌<◌, ◌≤
 ghost use Rattle.lists.specs.Numbers.{plus};
 ghost use Rattle.lists.specs.Tab.{tab, over};
 ghost use Rattle.contents.specs.Answers.{file_answer};
-ghost use Rattle.contents.specs.Contents.{edition as editionIn, count as countIn, body_start, ContentsTaken};
+ghost use Rattle.contents.specs.Contents.{edition as edition_in, count as count_in, body_start, ContentsTaken};
 ghost use Rattle.files.specs.Files.{block_in};
 ghost use Rattle.search.specs.Search.{between, meets as meets_in, opened, found, opened_tests, found_of, search_leaves, answer_of, rows_found, blocks_opened};
 ghost use Rattle.search.specs.InnerBlocks.{asked, bad_in, within_by};
@@ -159,7 +159,7 @@ fn check_opened(file: &[u8], low: u64, high: u64) -> FileAnswer
 // The ranges are asked for in edition 2, where the opened blocks have their run indices in range.
 fn lowest_bad(file: &[u8], low: u64, high: u64, ranges: bool) -> usize
     requires contents_taken { ContentsTaken file.now }
-    requires file_value { ranges ≡ true → (editionIn file.now ≡ 2) × (bad_in file.now low high false ≡ countIn file.now) }
+    requires file_value { ranges ≡ true → (edition_in file.now ≡ 2) × (bad_in file.now low high false ≡ count_in file.now) }
     ensures { result ≡ bad_in file.now low high ranges }
 {
     let n = count(file);
@@ -181,9 +181,9 @@ fn lowest_bad(file: &[u8], low: u64, high: u64, ranges: bool) -> usize
 // range. `block` is room for it.
 fn is_as_asked(file: &[u8], i: usize, at: usize, ranges: bool, block: &mut [u64]) -> bool
     requires contents_taken { ContentsTaken file.now }
-    requires i_bound { i < countIn file.now }
+    requires i_bound { i < count_in file.now }
     requires at_value { at ≡ body_start file.now i }
-    requires file_value { ranges ≡ true → (editionIn file.now ≡ 2) × (asked file.now false i ≡ true) }
+    requires file_value { ranges ≡ true → (edition_in file.now ≡ 2) × (asked file.now false i ≡ true) }
     requires block_len { length block.old ≡ 1024 }
     ensures value { result ≡ asked file.now ranges i }
     ensures block_len_2 { length block.new ≡ 1024 }
@@ -198,7 +198,7 @@ fn is_as_asked(file: &[u8], i: usize, at: usize, ranges: bool, block: &mut [u64]
 // is counted.
 fn has_room(file: &[u8], low: u64, high: u64, k: usize, room: usize) -> bool
     requires contents_taken { ContentsTaken file.now }
-    requires false_value { bad_in file.now low high false ≡ countIn file.now }
+    requires false_value { bad_in file.now low high false ≡ count_in file.now }
     requires k_value { k ≡ length (opened file.now low high) }
     ensures { result ≡ nat_le (length (found file.now low high)) room }
 {
@@ -211,7 +211,7 @@ fn has_room(file: &[u8], low: u64, high: u64, k: usize, room: usize) -> bool
 // How many rows are listed, in a file whose contents are right and whose opened blocks have their run indices in range.
 fn count_rows(file: &[u8], low: u64, high: u64) -> usize
     requires contents_taken { ContentsTaken file.now }
-    requires false_value { bad_in file.now low high false ≡ countIn file.now }
+    requires false_value { bad_in file.now low high false ≡ count_in file.now }
     ensures { result ≡ length (found file.now low high) }
 {
     let n = count(file);
@@ -230,8 +230,8 @@ fn count_rows(file: &[u8], low: u64, high: u64) -> usize
 // Lists the rows at the front of the room, where there is room for all of them, and gives how many they are.
 fn list_rows(file: &[u8], low: u64, high: u64, rows: &mut [u64]) -> usize
     requires contents_taken { ContentsTaken file.now }
-    requires false_value { bad_in file.now low high false ≡ countIn file.now }
-    requires true_value { bad_in file.now low high true ≡ countIn file.now }
+    requires false_value { bad_in file.now low high false ≡ count_in file.now }
+    requires true_value { bad_in file.now low high true ≡ count_in file.now }
     requires high_in_bounds { length (found file.now low high) ≤ length rows.old }
     ensures value { result ≡ length (found file.now low high) }
     ensures rows_after { rows.new ≡ over 0 (found file.now low high) rows.old }
@@ -296,7 +296,7 @@ fn block_fits(block: &[u64], low: u64, high: u64, room: usize) -> bool
 // How many rows are found in block i, whose body begins at `at`.
 fn count_from(file: &[u8], i: usize, at: usize, low: u64, high: u64) -> usize
     requires contents_taken { ContentsTaken file.now }
-    requires i_bound { i < countIn file.now }
+    requires i_bound { i < count_in file.now }
     requires at_value { at ≡ body_start file.now i }
     requires i_value { asked file.now false i ≡ true }
     ensures { result ≡ length (found_in (block_in file.now i) (i * 1024) low high) }
@@ -345,7 +345,7 @@ fn list_from(
     rows: &mut [u64],
 ) -> usize
     requires contents_taken { ContentsTaken file.now }
-    requires i_bound { i < countIn file.now }
+    requires i_bound { i < count_in file.now }
     requires at_value { at ≡ body_start file.now i }
     requires i_value { asked file.now false i ≡ true }
     requires i_value_2 { asked file.now true i ≡ true }

@@ -15,7 +15,7 @@ use lib.ListN.{length, take, length-replicate}
 use lib.Seq.{length-take-le, take_all}
 use borrow.Author.Tests.{lt-leb}
 use Rattle.lists.specs.Tab.{over}
-use Rattle.places.specs.Answers.{number_of as number_in, left as leftIn}
+use Rattle.places.specs.Answers.{number_of as number_in, left as left_in}
 use Rattle.places.specs.Sizes.{t64, lanes}
 use Rattle.places.specs.Takes.{answer_for}
 use Rattle.places.proofs.Answers.{number-apart}
@@ -101,10 +101,10 @@ module _ (s : State) (full : count_of s ≡ body_size (width_of s)) (output : Li
       elim (ℕ_discrete (length output) 1024) [
         | yes o ↦
             ap (λ a. left a (values_of s) output) (ask-done s output o (omega (arith, full)))
-            ∙ sym (ap (λ a. leftIn a (values_of s) output) (good_block t64 (width_of s) output (words_of s) (counted s).0 o (length-words s)))
+            ∙ sym (ap (λ a. left_in a (values_of s) output) (good_block t64 (width_of s) output (words_of s) (counted s).0 o (length-words s)))
         | no o ↦
             ap (λ a. left a (values_of s) output) (ask_block s output o)
-            ∙ sym (ap (λ a. leftIn a (values_of s) output) (bad_block t64 (width_of s) output (words_of s) (counted s).0 o))
+            ∙ sym (ap (λ a. left_in a (values_of s) output) (bad_block t64 (width_of s) output (words_of s) (counted s).0 o))
       ]
 
 -- After every refusal the output holds what it held.

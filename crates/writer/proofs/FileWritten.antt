@@ -37,7 +37,7 @@ use Rattle.candidates.proofs.Choice.{chosen_shortest}
 use Rattle.candidates.proofs.Least.{no_narrower}
 use Rattle.files.specs.Files.{block_in, row_at, rows_of, file_tests, block_out_tests, block_out_leaves}
 use Rattle.files.specs.Reasons.{Reason, block_there, no_block, row_there, no_row}
-use Rattle.files.specs.Rows.{row_of, value_of, answer_of as rowAnswer}
+use Rattle.files.specs.Rows.{row_of, value_of, answer_of as row_answer}
 use Rattle.files.proofs.Exactly.{file_exactly, block_exactly, row_exactly}
 use Rattle.files.proofs.Rows.{row-place, row_answers, row_values}
 use Rattle.writer.specs.Reasons.{Blocks, WriteReason, no_blocks, short_output, room_there}
@@ -157,7 +157,7 @@ module _ (values output : List ℕ) where
 
       -- The lookup of a row is done, and gives the number that stands there,
       pub write-row-at : (p : ℕ) → p < length values
-          → (rowAnswer (row_of (laid_down values output) p) ≡ Done) × (value_of (row_of (laid_down values output) p) ≡ get_or values p 0)
+          → (row_answer (row_of (laid_down values output) p) ≡ Done) × (value_of (row_of (laid_down values output) p) ≡ get_or values p 0)
       unfolding laid row_at
       write-row-at p h =
           let there : p < 1024 * count laid = omega (arith, laid_count, write_blocks.whole) in
@@ -171,7 +171,7 @@ module _ (values output : List ℕ) where
           )
 
       -- or, past the last row, is refused with 12.
-      pub write-no-row : (p : ℕ) → length values ≤ p → rowAnswer (row_of (laid_down values output) p) ≡ Beyond
+      pub write-no-row : (p : ℕ) → length values ≤ p → row_answer (row_of (laid_down values output) p) ≡ Beyond
       unfolding laid
       write-no-row p h = row_answers laid p ∙ (row_exactly laid p Beyond).1 (no_row laid_right (omega (arith, laid_count, write_blocks.whole)))
 
