@@ -36,11 +36,11 @@ pub record Stretch : Type 0 where
   pub front : List ℕ
   pub rest : ℕ
 
--- They are written f thenOn n.
-abbrev pub ◌thenOn◌ : (f : List ℕ) (n : ℕ) → Stretch
-f thenOn n = record { front = f; rest = n }
+-- They are written f then_on n.
+abbrev pub ◌then_on◌ : (f : List ℕ) (n : ℕ) → Stretch
+f then_on n = record { front = f; rest = n }
 
-infix 60 ◌thenOn◌
+infix 60 ◌then_on◌
 -- The block of 1,024 numbers is this stretch.
 abbrev pub Whole : (block : List ℕ) (s : Stretch) → Type 0
 Whole block s = (i : ℕ) → i < 1024 → get_or block i 0 ≡ get_or s.front i s.rest
@@ -140,11 +140,11 @@ values_p10 a b = a ∷ b ∷ a ∷ []
 
 -- These are its indices.
 abbrev pub indices_p10 : Stretch
-indices_p10 = (0 ∷ 0 ∷ 1 ∷ 2 ∷ []) thenOn 2
+indices_p10 = (0 ∷ 0 ∷ 1 ∷ 2 ∷ []) then_on 2
 
 -- This is its block.
 abbrev pub block_p10 : ℕ → ℕ → Stretch
-block_p10 a b = (a ∷ a ∷ b ∷ []) thenOn a
+block_p10 a b = (a ∷ a ∷ b ∷ []) then_on a
 
 -- This is the list. P5 is four cases, and P8 and P11 are two each.
 abbrev pub cases : List Case
