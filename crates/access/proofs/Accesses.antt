@@ -20,6 +20,9 @@ use Rattle.packing.proofs.Rounds.{unpack-at}
 use Rattle.access.specs.declared.Listed.TheVariants.{Words, Refused}
 use Rattle.access.specs.Calls.{single, single_takes, single_of, list_takes, list_of, list_gives, answer_of, words_of, list_leaves}
 use Rattle.access.specs.Counts.{count_at, no_count, counts_of_lem, list_words}
+use Rattle.access.specs.Singles as singles
+use Rattle.access.specs.declared.Single.{Single}
+use Rattle.access.specs.declared.Single.TheVariants as variants
 use Rattle.access.proofs.Answers.{single-good, index_in, list-good, list_bad_index, indices-good}
 
 -- What a list gives stands for the answer of the tests, and for the words where it is done.
@@ -31,6 +34,18 @@ module _ (t w : ℕ) (packed indices output : List ℕ) where
   pub list_counts : words_of (list_gives t w packed indices output) ≡ left (answer_for (list_takes t w packed indices output)) (list_words t w indices) 0
   unfolding list_gives
   list_counts = says_number (Words (list_words t w indices)) Refused words_of 0 (λ _. refl) (answer_for (list_takes t w packed indices output))
+
+-- Where the elements are numbers, the single answer is the one with its value as a number. So a contract that is said of
+-- `single_number` is said of the answer itself there.
+pub single-same : (s : Single ℕ) → singles.single_number (λ v. v) s ≡ s
+single-same (variants.Value v n) = refl
+single-same (variants.Refused a) = refl
+
+-- At every type of element the answer and the count stand there as they are.
+pub single_number-reads : {A : Type 0} (number : A → ℕ) (s : Single A)
+    → (singles.answer_of (singles.single_number number s) ≡ singles.answer_of s) × (singles.words_of (singles.single_number number s) ≡ singles.words_of s)
+single_number-reads number (variants.Value v n) = (refl, refl)
+single_number-reads number (variants.Refused a) = (refl, refl)
 
 -- What an enum's two cases stand for, read back off the single answer, is the answer of the tests, and the value at the
 -- index where the call is done.

@@ -4,13 +4,13 @@ use mathlib.Core.Bool.{Bool, true, false}
 use mathlib.Core.List.{List}
 use mathlib.Core.Logic.{◌⊎◌, ⊎_elim}
 use mathlib.Core.Path.{◌≡◌, refl, sym, ap, ap₂, subst, ◌∙◌}
-use Prim.Native.Nat.{ℕ, zero, suc, ◌+◌, ◌-◌, ◌*◌, ◌^◌, ◌≤◌, ◌<◌}
+use Prim.Native.Nat.{ℕ, zero, suc, ◌+◌, ◌-◌, ◌*◌, ◌/◌, ◌^◌, ◌≤◌, ◌<◌}
 use native.Mathlib.Decide.{dec_le}
 use native.Mathlib.Omega.{arith}
 use lib.Dec.{leb}
 use lib.ListN.{length, get_or, take, drop}
 use lib.Seq.{take-add, take_all, length-take-le, get_or-take, ext_get_or}
-use borrow.Author.Tests.{le-leb, lt-leb, leb-true, leb-false}
+use borrow.Author.Tests.{le-leb, lt-leb, leb-true, leb-false, eqb-true}
 use Rattle.lists.specs.Pick.{pick}
 use Rattle.lists.specs.Tab.{tab, over}
 use Rattle.lists.proofs.Overs.{over-front, over-rest}
@@ -19,14 +19,17 @@ use Rattle.lists.proofs.Tabs.{Written, tab_ext, length-tab, get_d_tab, written_a
 use Rattle.lists.proofs.Tests.{false-true}
 use Rattle.places.specs.declared.Answer.{Answer}
 use Rattle.places.specs.declared.Answer.TheVariants.{Done}
-use Rattle.places.specs.Answers.{left}
+use Rattle.places.specs.Answers.{number_of, is_done, left}
 use Rattle.places.specs.Places.{row}
 use Rattle.places.specs.Takes.{answer_for}
-use Rattle.places.proofs.Answers.{says_answer, says_number}
+use Rattle.places.proofs.Answers.{says_answer, says_number, number-done}
 use Rattle.packing.specs.Packed.{value_at}
+use Rattle.access.specs.declared.Afforded.{Afforded}
 use Rattle.access.specs.declared.Afforded.TheVariants.{Front, Refused}
+use Rattle.access.specs.declared.Listed.{Listed}
+use Rattle.access.specs.declared.Listed.TheVariants.{Words, Refused as Unlisted}
 use Rattle.access.specs.Budgets.{most, front_words, affordable, within_gives, within_leaves, answer_of, answered_of, words_of}
-use Rattle.access.specs.Calls.{list_takes, list_of, list_leaves}
+use Rattle.access.specs.Calls.{list_takes, list_of, list_gives, list_leaves}
 use Rattle.access.specs.Counts.{count_at, counts_of_lem, sum_of, list_words}
 use Rattle.access.proofs.Answers.{index_within, list-good, Listable, list-taken}
 use Rattle.access.proofs.Counts.{words_small, counts_length, counts_at, sum_append, sum_next, list_held, front-small}
@@ -312,3 +315,51 @@ module _ (t w : ℕ) (packed indices output : List ℕ) (budget : ℕ) where
               ∙ sym (ap (λ a. left a x (take k output)) front),
           λ small. words ∙ sym ((list_held t w (take k indices)).0 (omega (arith, words, affordable-within t w indices budget))),
         )
+
+-- ---- a budget of two words for each lookup
+
+-- What access by the whole list gives, as access under a budget would give it.
+abbrev pub as_front : ℕ → Listed → Afforded
+as_front k (Words n) = Front k n
+as_front k (Unlisted a) = Refused a
+
+front_of : (k n : ℕ) (a : Answer) (b : Bool) → as_front k (pick b (Words n) (Unlisted a)) ≡ pick b (Front k n) (Refused a)
+front_of k n a true = refl
+front_of k n a false = refl
+
+-- It is enough for all of them: what is given and left is what access by the whole list gives and leaves.
+module _ (t w : ℕ) (packed indices output : List ℕ) (budget : ℕ) (ample : length indices ≤ budget / 2) (small : budget < 2 ^ 64) where
+  all-afforded : affordable t w indices budget ≡ length indices
+  all-afforded = affordable_all t w indices budget (omega arith)
+
+  all-words : front_words t w indices (length indices) ≡ list_words t w indices
+  unfolding front_words
+  all-words =
+      let counts = take_all (length indices) (counts_of_lem t w indices) (omega (arith, counts_length t w indices)) in
+      let most = front-twice t w indices (length indices) (omega arith) in
+      let sum : sum_of (counts_of_lem t w indices) < 2 ^ 64 = subst (λ l. sum_of l < 2 ^ 64) counts (omega arith) in
+      ap sum_of counts ∙ sym ((list_held t w indices).0 sum)
+
+  pub ample-gives : {r : Listed} → r ≡ list_gives t w packed indices output → as_front (length indices) r ≡ within_gives t w packed indices output budget
+  unfolding list_gives within_gives
+  ample-gives e =
+      let a = answer_for (list_takes t w packed indices output) in
+      ap (as_front (length indices)) e
+      ∙ front_of (length indices) (list_words t w indices) a (is_done a)
+      ∙ ap (λ n. pick (is_done a) (Front (length indices) n) (Refused a)) (sym all-words)
+      ∙ ap (λ k. pick (is_done a) (Front k (front_words t w indices k)) (Refused a)) (sym all-afforded)
+
+  pub ample-leaves : list_leaves t w packed indices output ≡ within_leaves t w packed indices output budget
+  unfolding list_leaves within_leaves
+  ample-leaves = by_answer (is_done answer) refl
+    where
+      answer : Answer
+      answer = answer_for (list_takes t w packed indices output)
+
+      by_answer : (b : Bool) → is_done answer ≡ b → list_leaves t w packed indices output ≡ within_leaves t w packed indices output budget
+      by_answer true e =
+          let done = number-done answer (eqb-true (number_of answer) 0 e) in
+          sym (within_all t w packed indices output budget done all-afforded small).0
+      by_answer false e =
+          ap (λ b. pick b (list_of t w packed indices) output) e
+          ∙ sym (ap (λ b. pick b (over 0 (list_of t w packed (take (affordable t w indices budget) indices)) output) output) e)

@@ -2,5 +2,5 @@ pub mod Accesses
 pub mod Answers
 pub mod Budgets
 pub mod Counts
-pub mod Lookups
+pub mod LanesAndRows
 pub mod Tables

@@ -18,7 +18,7 @@ abbrev pub single_takes : (t w : ℕ) (packed : List ℕ) (index : ℕ) → List
 single_takes t w packed index = a_width t w ∷ a_packed t w packed ∷ an_index index ∷ []
 
 -- The single answer is the value and its count of words where the call is done, and else the refusal. The type of the
--- answer at each element size, `Single`, has these two cases; what they stand for is said in t8, t16, t32 and t64.
+-- answer, `Single`, has these two cases; what they stand for is said in Singles.
 abbrev pub single : {S : Type 0} → (value : (v count : ℕ) → S) (refused : Answer → S) (answer : Answer) (v count : ℕ) → S
 single value refused a v n = pick (is_done a) (value v n) (refused a)
 

@@ -3,8 +3,4 @@ pub mod Calls
 pub mod Counts
 pub mod InnerCounts
 pub mod InnerEntries
-pub mod InnerLookups
-pub mod t16
-pub mod t32
-pub mod t64
-pub mod t8
+pub mod Singles

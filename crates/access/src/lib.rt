@@ -1,30 +1,69 @@
 // Access to a packed block of 1,024 values: at one place, and by a list of places. From the crate's src/bitpacking.rs.
 // The width is given at the call.
 //
-// What is the same at all four element sizes stands here: what a list of lookups gives, with a budget and without, the
-// search of a list for an index past the block's end, and an entry's refusal as the list's. Each size has a module of
-// its own.
+// What the calls give stands here: a single lookup, a list of them, and a list under a budget.
 #![tactic(auto)]
 
-pub mod t16;
-pub mod t32;
-pub mod t64;
-pub mod t8;
+mod indices;
+mod lookups;
+mod singles;
 
 ghost use Rattle.std.specs.Prelude.{◌≡◌};
-ghost use Rattle.lists.specs.Search.{first_beyond};
 ghost use Rattle.access.specs.Budgets as Budgets;
 ghost use Rattle.access.specs.Calls.{answer_of, words_of};
-ghost use Rattle.access.specs.InnerCounts.{firsts};
-ghost use Rattle.access.specs.InnerEntries.{at_entry};
+ghost use Rattle.access.specs.Singles as Singles;
 
-use places::Answer;
+pub use indices::{unpack_indices, unpack_within};
+pub use lookups::Lookup;
+use places::{Answer, Element};
+pub use singles::{unpack_single, words_at};
 
 // A number of packed words: how many the bits of a value stand in, or the sum of these over a list (R39, R43).
 pub type Words = u64;
 
 // What stands for a count where there is none.
 pub const NO_COUNT: Words = u64::MAX;
+
+// The value at one place and how many packed words its bits stand in, or the refusal.
+#[derive(Clone, Copy)]
+pub enum Single<E> {
+    Value(E, Words),
+    Refused(Answer),
+}
+
+impl<E: Copy> Single<E> {
+    // The answer in the terms of the other calls.
+    pub fn answer(self) -> Answer
+        ensures { result ≡ Singles.answer_of self }
+    {
+        match self {
+            Single::Value(_, _) => Answer::Done,
+            Single::Refused(a) => a,
+        }
+    }
+
+    // The value; 0 after a refusal.
+    pub fn value<const T: usize, const LANES: usize>(self) -> E
+    where
+        E: Element<T, LANES>,
+        ensures { E.number result ≡ Singles.value_of (Singles.single_number E.number self) }
+    {
+        match self {
+            Single::Value(v, _) => v,
+            Single::Refused(_) => E::of(0),
+        }
+    }
+
+    // The count of words; `NO_COUNT` after a refusal.
+    pub fn words(self) -> Words
+        ensures { result ≡ Singles.words_of self }
+    {
+        match self {
+            Single::Value(_, n) => n,
+            Single::Refused(_) => NO_COUNT,
+        }
+    }
+}
 
 // What access by a list gives: the words of all its lookups, or the refusal.
 #[derive(Clone, Copy)]
@@ -93,41 +132,4 @@ impl Afforded {
             Afforded::Refused(_) => 0,
         }
     }
-}
-
-// The lowest place of a list whose index is 1,024 or more; the list's length where there is none.
-fn first_beyond(indices: &[usize]) -> usize
-    ensures { result ≡ first_beyond 1024 indices.now }
-{
-    let mut i = 0;
-    let place = loop {
-        if indices.len() <= i {
-            break i;
-        }
-        if 1024 <= indices[i] {
-            break i;
-        }
-        i += 1;
-    };
-    place
-}
-
-// What entry i of a list answers, as the list's answer: a bad index, number 6, has the entry's place.
-fn at_entry(answer: Answer, i: usize) -> Answer
-    ensures { result ≡ at_entry answer i }
-{
-    if answer.number() == 6 {
-        return Answer::Index(i);
-    }
-    answer
-}
-
-// The first words of so many lookups: none at width 0, and else one for each.
-fn first_words(width: usize, lookups: usize) -> Words
-    ensures { result ≡ firsts width lookups }
-{
-    if width == 0 {
-        return 0;
-    }
-    lookups as Words
 }

@@ -6,28 +6,31 @@
 // whole-number arithmetic, which the compiler turns into a plain copy. The crate stores each byte of a group where it
 // belongs; here each output word gathers its eight bytes from the groups, so that it is written once and whole.
 //
-// What is the same at all four element sizes stands here, and the transpose of each size has a module of its own. The
-// inverse is asked for at T 64 only, so untranspose_bits stands here and not in the modules, which are one text for all
-// sizes.
+// The transpose is one text for all element sizes. The inverse is asked for at T 64 only.
 #![tactic(auto)]
-
-pub mod t16;
-pub mod t32;
-pub mod t64;
-pub mod t8;
 
 ghost use Rattle.std.specs.Prelude.{◌≡◌, ℕ, ◌+◌, ◌-◌, ◌*◌, ◌/◌, ◌^◌, ◌≤◌, ◌<◌, length};
 ghost use Rattle.lists.specs.Tab.{tab, over};
-ghost use Rattle.bits.specs.Bits.{untranspose_bits_of, bit_of};
-ghost use Rattle.bits.specs.InnerSteps.{bytes_of, gather_of, exchange_of, turn_of, gathers_of, turns_of, round_start, scatter_start, unscatter_start, ungroup_start, byte_of};
+ghost use Rattle.bits.specs.Bits.{transpose_bits_of, untranspose_bits_of, bit_of};
+ghost use Rattle.bits.specs.InnerSteps.{bytes_of, gather_of, exchange_of, turn_of, gathers_of, turns_of, group_start, round_start, scatter_start, unscatter_start, ungroup_start, byte_of};
 
-use places::order;
+use places::{Element, order};
 
 // Bit p of a block is bit p mod 64 of number p / 64, lowest first.
 pub type BitBlock = [u64; 16];
 
 // The bytes of a block, the lowest byte of each number first.
 type Bytes = [u8; 128];
+
+// Moves input bit l · T + r to the place of row r in lane l, for each lane l and each row r. All that E says is the size:
+// transpose_bits::<u8, 8, 128>(block) is the transpose for T 8.
+pub fn transpose_bits<E: Element<T, LANES>, const T: usize, const LANES: usize>(
+    block: BitBlock,
+) -> BitBlock
+    ensures { result ≡ transpose_bits_of T block }
+{
+    scatter(group::<E, T, LANES>(block))
+}
 
 // Moves the bits of a block that was transposed for T 64 back to where they came from.
 pub fn untranspose_bits(block: BitBlock) -> BitBlock
@@ -61,10 +64,8 @@ fn bytes_of(block: BitBlock) -> Bytes
     ensures { result ≡ bytes_of block }
 {
     let mut bytes: Bytes = [0; 128];
-    let mut k = 0;
-    while k < 16 {
+    for k in 0..16 {
         write_word(&mut bytes, k * 8, block[k]);
-        k += 1;
     }
     bytes
 }
@@ -74,10 +75,8 @@ fn write_word(bytes: &mut [u8], at: usize, word: u64)
     requires { at + 8 ≤ length bytes.old }
     ensures { bytes.new ≡ over at (tab 8 (byte_of word)) bytes.old }
 {
-    let mut i = 0;
-    while i < 8 {
+    for i in 0..8 {
         bytes[at + i] = ((word >> (i * 8)) % 256) as u8;
-        i += 1;
     }
 }
 
@@ -87,10 +86,8 @@ fn gather(bytes: &Bytes, start: usize, step: usize) -> u64
     ensures { result ≡ gather_of bytes.now start step }
 {
     let mut x = 0;
-    let mut i = 0;
-    while i < 8 {
+    for i in 0..8 {
         x = x | (wide(bytes[start + i * step]) << (i * 8));
-        i += 1;
     }
     x
 }
@@ -100,6 +97,21 @@ fn wide(x: u8) -> u64
     ensures { (result ≡ x) × (result < 256) }
 {
     x as u64
+}
+
+// Takes up the sixteen groups, and transposes each. A group has one byte of the words of eight lanes: byte b of the
+// eight lanes from 8 · e on is group order[b] · 2 + e, for that is the first byte that scatter makes of it.
+fn group<E: Element<T, LANES>, const T: usize, const LANES: usize>(block: BitBlock) -> BitBlock
+    ensures { result ≡ turns_of (group_start T) (T / 8) block }
+{
+    let bytes = bytes_of(block);
+    let mut groups: BitBlock = [0; 16];
+    for g in 0..16 {
+        let e = g % (LANES / 8);
+        let b = order((g - e) / 2);
+        groups[g] = transpose_8x8(gather(&bytes, e * T + b, T / 8));
+    }
+    groups
 }
 
 // Lays out the groups of a transpose: byte i of group g becomes byte 16 · i + g of the output.
@@ -116,10 +128,8 @@ fn unscatter(block: BitBlock) -> BitBlock
 {
     let bytes = bytes_of(block);
     let mut groups: BitBlock = [0; 16];
-    let mut g = 0;
-    while g < 16 {
+    for g in 0..16 {
         groups[g] = transpose_8x8(gather(&bytes, order(g % 8) * 2 + g / 8, 16));
-        g += 1;
     }
     groups
 }
@@ -140,10 +150,8 @@ fn lay_out(groups: BitBlock, turns: usize, near: usize, far: usize) -> BitBlock
 {
     let bytes = bytes_of(groups);
     let mut out: BitBlock = [0; 16];
-    let mut w = 0;
-    while w < 16 {
+    for w in 0..16 {
         out[w] = gather(&bytes, w % turns * near + w / turns * far, 8);
-        w += 1;
     }
     out
 }

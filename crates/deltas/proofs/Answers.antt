@@ -1,7 +1,7 @@
 -- What the calls of deltas answer, by the tests that they make, and what they leave where they are done, over the
 -- element size.
 -- Assumes nothing.
-use mathlib.Core.Path.{◌≡◌, ap}
+use mathlib.Core.Path.{◌≡◌, sym, ap, ◌∙◌}
 use mathlib.Core.List.{List}
 use Prim.Native.Nat.{ℕ, ◌*◌, ◌≤◌, ◌<◌}
 use lib.ListN.{length}
@@ -84,3 +84,37 @@ module _ (t w : ℕ) (values packed : List ℕ) (h : w ≤ t) (ev : length value
   pub unfor_pack-leaves : (reference : ℕ) → unfor_pack_leaves t w values packed reference ≡ unfor_pack_of t w packed reference
   unfolding unfor_pack_leaves
   unfor_pack-leaves reference = ap (λ a. left a (unfor_pack_of t w packed reference) values) (good_block t w values packed h ev ep)
+
+-- the same of lists of elements, by the tests that the code makes of them: n is LANES
+
+module _ {A : Type 0} (numbers : List A → List ℕ) (long : (xs : List A) → length (numbers xs) ≡ length xs) (t : ℕ) {n : ℕ} (side : lanes t ≡ n) where
+  module _ (input base output : List A) where
+    pub tested_input : (length input ≡ 1024 → ⊥) → answer_for (delta_takes t (numbers input) (numbers base) (numbers output)) ≡ Block
+    tested_input b = delta_bad_input t _ _ _ (λ e. b (sym (long input) ∙ e))
+
+    module _ (ei : length input ≡ 1024) where
+      pub tested_output : (length output ≡ 1024 → ⊥) → answer_for (delta_takes t (numbers input) (numbers base) (numbers output)) ≡ Block
+      tested_output b = delta_bad_output t _ _ _ (long input ∙ ei) (λ e. b (sym (long output) ∙ e))
+
+      pub tested_base : length output ≡ 1024 → (length base ≡ n → ⊥) → answer_for (delta_takes t (numbers input) (numbers base) (numbers output)) ≡ Base
+      tested_base eo b = delta_bad_base t _ _ _ (long input ∙ ei) (long output ∙ eo) (λ e. b (sym (long base) ∙ e ∙ side))
+
+      pub tested_delta : length output ≡ 1024 → length base ≡ n → answer_for (delta_takes t (numbers input) (numbers base) (numbers output)) ≡ Done
+      tested_delta eo eb = delta-good t _ _ _ (long input ∙ ei) (long output ∙ eo) (long base ∙ eb ∙ sym side)
+
+  module _ {w : ℕ} (values packed base : List A) (h : w ≤ t) where
+    pub tested-unpack_block : (length values ≡ 1024 → ⊥) → answer_for (undelta_pack_takes t w (numbers values) (numbers packed) (numbers base)) ≡ Block
+    tested-unpack_block b = unpack_bad_block t w _ _ _ h (λ e. b (sym (long values) ∙ e))
+
+    module _ (ev : length values ≡ 1024) where
+      pub tested-unpack_packed : (length packed ≡ n * w → ⊥) → answer_for (undelta_pack_takes t w (numbers values) (numbers packed) (numbers base)) ≡ Packed
+      tested-unpack_packed b = unpack_bad_packed t w _ _ _ h (long values ∙ ev) (λ e. b (sym (long packed) ∙ e ∙ ap (λ k. k * w) side))
+
+      module _ (ep : length packed ≡ n * w) where
+        pub tested-unpack_base : (length base ≡ n → ⊥) → answer_for (undelta_pack_takes t w (numbers values) (numbers packed) (numbers base)) ≡ Base
+        tested-unpack_base b =
+            unpack_bad_base t w _ _ _ h (long values ∙ ev) (long packed ∙ ep ∙ ap (λ k. k * w) (sym side)) (λ e. b (sym (long base) ∙ e ∙ side))
+
+        pub tested-unpack : length base ≡ n → answer_for (undelta_pack_takes t w (numbers values) (numbers packed) (numbers base)) ≡ Done
+        tested-unpack eb =
+            unpack-good t w _ _ _ h (long values ∙ ev) (long packed ∙ ep ∙ ap (λ k. k * w) (sym side)) (long base ∙ eb ∙ sym side)

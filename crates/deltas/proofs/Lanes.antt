@@ -21,7 +21,7 @@ use Rattle.lists.proofs.Digits.{elements-of}
 use Rattle.places.specs.Places.{place, lane, row}
 use Rattle.places.specs.Sizes.{Size, lanes}
 use Rattle.places.proofs.Places.{size_some, place-row-lane, lane-lt, row_lt, lane_place, row-place, place-lt}
-use Rattle.rows.proofs.Rows.{sub_wraps}
+use Rattle.places.proofs.Wraps.{sub_wraps}
 use Rattle.packing.specs.Packed.{words_number, unpack_of}
 use Rattle.packing.proofs.Rounds.{length-pack, length-unpack, unpack-at, unpack-fits, value-place}
 use Rattle.deltas.specs.Deltas.{before, delta_of, summed, undelta_of, frame_of, for_pack_of}

@@ -3,13 +3,14 @@
 -- Assumes nothing.
 use mathlib.Core.Path.{◌≡◌, sym, ap, ap₂, ◌∙◌}
 use mathlib.Core.List.{List}
-use Prim.Native.Nat.{ℕ, zero, suc, ◌+◌, ◌^◌, ◌≤◌, ◌<◌}
+use Prim.Native.Nat.{ℕ, zero, suc, ◌+◌, ◌*◌, ◌^◌, ◌≤◌, ◌<◌}
+use native.Mathlib.Nat.{zero-add, mul-suc, mul-add-mod_self_left, mod-eq_of_lt}
 use native.Mathlib.Numerals.{add-one}
 use native.Mathlib.Omega.{arith}
 use lib.ListN.{length, get_or}
 use Rattle.lists.specs.Numbers.{plus, minus, Elements}
 use Rattle.lists.specs.Tab.{tab, over}
-use Rattle.lists.proofs.Tabs.{get_d_tab, tab_ext, tab_get_d}
+use Rattle.lists.proofs.Tabs.{get_d_tab, tab_ext, tab_get_d, Written, written-length, written-run}
 use Rattle.places.specs.Places.{place, lane, row}
 use Rattle.places.specs.Sizes.{Size, lanes}
 use Rattle.places.proofs.Places.{lane-lt, place-lt}
@@ -18,6 +19,7 @@ use Rattle.rows.proofs.Blocks.{row_from_lem, row_of, row_from, Laid, laid_none, 
 use Rattle.rows.proofs.Rows.{load-room, add_tab, sub_tab}
 use Rattle.packing.specs.Packed.{value_at, unpack_of}
 use Rattle.packing.proofs.Rounds.{digit-zero, value-zero}
+use Rattle.packing.proofs.Walks.{copied_room}
 use Rattle.deltas.specs.Deltas.{before, summed, undelta_of, undelta_pack_of, frame_of, unfor_pack_of}
 use Rattle.deltas.proofs.Lanes.{plus-zero, minus-lt, summed-zero, length-undelta, undelta-at}
 use Rattle.deltas.proofs.Lanes.{delta-row-first, delta-row-next}
@@ -138,3 +140,21 @@ no-words-summed t packed b e small =
     (λ p _.
     ap (λ x. get_or x (lane t p) 0) (load-base t b e)
     ∙ sym (summed-zero t _ (digit-zero _) (get_or b (lane t p) 0) (small (lane t p)) (row t p)))
+
+-- The rows of places are one after another: where those before row r hold the row again and again, and it is put there,
+-- those before the next one do.
+pub repeated : {t : ℕ} (size : Size t) {r : ℕ} → r < t → (row : List ℕ) {x y z : List ℕ} → length row ≡ lanes t → length x ≡ 1024
+    → Written 0 (lanes t * r) (λ p. get_or row (lane t p) 0) x y → {q : ℕ} → q ≡ lanes t * r → z ≡ over q row y
+    → Written 0 (lanes t * (r + 1)) (λ p. get_or row (lane t p) 0) x z
+unfolding lane
+repeated {t} size {r} hr row {x} {y} long all w {q} eq ez =
+    let next : lanes t * (r + 1) ≡ lanes t * r + lanes t = ap (λ n. lanes t * n) (add-one r) ∙ mul-suc (lanes t) r in
+    let again =
+    sym (tab_get_d row 0 (lanes t) long)
+    ∙ tab_ext (lanes t) _ _ 0 (λ l h. ap (λ n. get_or row n 0) (sym (mul-add-mod_self_left (lanes t) r l ∙ mod-eq_of_lt h))) in
+    rw next
+    (written-run w q (eq ∙ sym (zero-add (lanes t * r)))
+    (record {
+      room = omega (arith, copied_room size r hr, written-length w);
+      is = ez ∙ ap (λ v. over q v y) again;
+    }))

@@ -151,10 +151,8 @@ fn fill_pairs(bytes: &[u8], pairs: &mut [u16])
     requires { 2 * length pairs.old ≤ length bytes.now }
     ensures { pairs.new ≡ numbers_of 2 bytes.now (length pairs.old) }
 {
-    let mut i = 0;
-    while i < pairs.len() {
+    for i in 0..pairs.len() {
         pairs[i] = pair_at(bytes, i * 2);
-        i += 1;
     }
 }
 
@@ -162,10 +160,8 @@ fn fill_words(bytes: &[u8], words: &mut [u64])
     requires { 8 * length words.old ≤ length bytes.now }
     ensures { words.new ≡ numbers_of 8 bytes.now (length words.old) }
 {
-    let mut i = 0;
-    while i < words.len() {
+    for i in 0..words.len() {
         words[i] = word_at(bytes, i * 8);
-        i += 1;
     }
 }
 
@@ -197,9 +193,7 @@ fn lay_words(words: &[u64], bytes: &mut [u8])
     requires { 8 * length words.now ≤ length bytes.old }
     ensures { bytes.new ≡ over 0 (all_bytes 8 words.now) bytes.old }
 {
-    let mut i = 0;
-    while i < words.len() {
+    for i in 0..words.len() {
         put_word_at(words[i], i * 8, bytes);
-        i += 1;
     }
 }

@@ -1,7 +1,7 @@
 -- What pack and unpack answer, by the tests that they make, and what they leave where they are done, over the element
 -- size.
 -- Assumes nothing.
-use mathlib.Core.Path.{◌≡◌, ap}
+use mathlib.Core.Path.{◌≡◌, sym, ap, ◌∙◌}
 use mathlib.Core.List.{List}
 use Prim.Native.Nat.{ℕ, ◌*◌, ◌≤◌, ◌<◌}
 use lib.ListN.{length}
@@ -40,3 +40,15 @@ module _ (t w : ℕ) (values packed : List ℕ) where
     pub unpack-leaves : unpack_leaves t w values packed ≡ unpack_of t w packed
     unfolding unpack_leaves
     unpack-leaves = ap (λ a. left a (unpack_of t w packed) values) (good_block h ev ep)
+
+-- the same of lists of elements, by the tests that the code makes of them: n is LANES
+module _ {A : Type 0} (numbers : List A → List ℕ) (long : (xs : List A) → length (numbers xs) ≡ length xs)
+    {t n : ℕ} (side : lanes t ≡ n) {w : ℕ} (values packed : List A) (h : w ≤ t) where
+  pub tested_block : (length values ≡ 1024 → ⊥) → answer_for (pack_takes t w (numbers values) (numbers packed)) ≡ Block
+  tested_block b = bad_block t w _ _ h (λ e. b (sym (long values) ∙ e))
+
+  pub tested_packed : length values ≡ 1024 → (length packed ≡ n * w → ⊥) → answer_for (pack_takes t w (numbers values) (numbers packed)) ≡ Packed
+  tested_packed e b = bad_packed t w _ _ h (long values ∙ e) (λ f. b (sym (long packed) ∙ f ∙ ap (λ k. k * w) side))
+
+  pub tested_good : length values ≡ 1024 → length packed ≡ n * w → answer_for (pack_takes t w (numbers values) (numbers packed)) ≡ Done
+  tested_good e f = good_block t w _ _ h (long values ∙ e) (long packed ∙ f ∙ ap (λ k. k * w) (sym side))

@@ -3,6 +3,7 @@
 --
 --   At         where a walk stands before a row;
 --   Read       what a turn that unpacks has read, and where it stands then;
+--   Reading    how it comes to that, by what the code tests;
 --   Filled     how much of the packed block is written;
 --   Packing    what a walk that packs holds before a row.
 --
@@ -11,7 +12,7 @@
 use mathlib.Core.Path.{◌≡◌, refl, sym, ap, ap₂, ◌∙◌, subst}
 use mathlib.Core.List.{List, ◌++◌}
 use Prim.Native.Nat.{ℕ, ◌+◌, ◌-◌, ◌*◌, ◌/◌, ◌%◌, ◌^◌, ◌≤◌, ◌<◌}
-use native.Mathlib.Nat.{mul-zero, zero-mul, zero-mod, zero-div, mul-suc, mul-mod_right, le_of_eq, mod-lt, mod-eq_of_lt}
+use native.Mathlib.Nat.{mul_comm, mul-zero, zero-mul, zero-mod, zero-div, mul-suc, mul-mod_right, le_of_eq, mod-lt, mod-eq_of_lt}
 use native.Mathlib.Numerals.{add-one}
 use native.Mathlib.Omega.{arith}
 use lib.Arith.{lt_of_le-ne}
@@ -23,7 +24,7 @@ use Rattle.lists.proofs.Digits.{digit-number}
 use Rattle.lists.proofs.Tabs.{length-tab, tab_ext, tab_append, length_over}
 use Rattle.places.specs.Places.{place, next_start_lem}
 use Rattle.places.specs.Sizes.{Size, lanes}
-use Rattle.places.proofs.Places.{size_some, place-lt}
+use Rattle.places.proofs.Places.{size_some, size-lanes, place-lt}
 use Rattle.rows.specs.Rows.{splat_of, shr_of, or_shl_of, mask_of}
 use Rattle.rows.proofs.Blocks.{row_from_lem, row_of, Starts, starts_first, starts_next}
 use Rattle.packing.specs.Packed.{word, part, values_number, word_at, pack_of, value_at}
@@ -130,6 +131,28 @@ module _ {t : ℕ} (size : Size t) {w r s word : ℕ} (hr : r < t) (pos : 0 < w)
           next = at-over size hr pos at (omega arith) (omega arith) es ew;
         }
 
+-- A walk that stands before row r has loaded its words, from `places` places, and has cut off what lies in front of the
+-- row. Where the row lies within these words it is read, and the walk stands in them or, where the row ends with them, in
+-- the next ones; else what the next ones hold of it is joined.
+pub record Reading (t places w r : ℕ) (packed row : List ℕ) (s word : ℕ) : Type 0 where
+  pub within : s + w < t → {row' : List ℕ} {s' word' : ℕ} → s' ≡ s + w → word' ≡ word → row' ≡ row → Read t w r packed row' s' word'
+  pub full : s + w ≡ t → {row' : List ℕ} {s' word' : ℕ} → s' ≡ s + w - t → word' ≡ word + places → row' ≡ row → Read t w r packed row' s' word'
+  pub over : t < s + w → {next row' : List ℕ} {s' word' : ℕ} → s' ≡ s + w - t → word' ≡ word + places → next ≡ row_from_lem t packed (word + places)
+      → row' ≡ or_shl_of t row next (w - (s + w - t)) → Read t w r packed row' s' word'
+
+pub reading : {t : ℕ} (size : Size t) {places : ℕ} → lanes t ≡ places → {w r s word : ℕ} → r < t → (0 < w) × (w < t) → At t w r s word
+    → (packed : List ℕ) → Elements t packed → {row : List ℕ} → row ≡ shr_of t (row_from_lem t packed word) s
+    → Reading t places w r packed row s word
+reading {t} size side {w} {r} {s} {word} hr middle at packed small {row} first =
+    let next = ap (λ n. word + n) (sym side) in
+    record {
+      within = λ less es ew er. read-within size hr middle.0 middle.1 at packed small (er ∙ first) less es ew;
+      full = λ e es ew er. read-full size hr middle.0 middle.1 at packed small (er ∙ first) e es (ew ∙ next);
+      over = λ b es ew en er.
+          read-over size hr middle.0 middle.1 at packed small first b es (ew ∙ next)
+          (er ∙ ap (λ x. or_shl_of t row x (w - (s + w - t))) (en ∙ ap (row_from_lem t packed) next));
+    }
+
 -- ---- the walks that pack
 
 -- A packed block of the right length is filled up to word k where the rows of words in front of that hold what they
@@ -232,6 +255,13 @@ packing_all {t} {w} size {r = r} e p = filled_all (r * w / t) (ap (λ n. n * w /
 
 -- ---- the walks that copy, at width t
 
+-- all words of the packed block, and those of row r within it
+pub copied_size : {t : ℕ} → Size t → lanes t * t ≡ 1024
+copied_size {t} size = mul_comm (lanes t) t ∙ size-lanes size
+
+pub copied_room : {t : ℕ} → Size t → (r : ℕ) → r < t → lanes t * r + lanes t ≤ 1024
+copied_room {t} size r hr = rw (copied_size size) at (word_room t t r hr)
+
 -- the words of row r are the values at its places
 pub copied_row : {t : ℕ} (size : Size t) (r : ℕ) (packed : List ℕ) → Elements t packed → r < t
     → word_row t packed r ≡ tab (lanes t) (λ l. value_at t t packed (place r l))
@@ -239,6 +269,11 @@ unfolding word
 copied_row {t} size r packed small hr =
     tab_ext (lanes t) _ _ 0
     (λ l hl. sym (value-place size t packed l r hl hr ∙ digit-words t t l hl packed small r hr))
+
+-- the same of the row that a walk loads: `places` places hold lanes t words
+pub copied : {t : ℕ} (size : Size t) {places : ℕ} → lanes t ≡ places → {r : ℕ} (packed : List ℕ) → Elements t packed → r < t
+    → {row : List ℕ} → row ≡ row_from_lem t packed (places * r) → row ≡ tab (lanes t) (λ l. value_at t t packed (place r l))
+copied {t} size side {r} packed small hr e = e ∙ ap (λ n. row_from_lem t packed (n * r)) (sym side) ∙ copied_row size r packed small hr
 
 -- and the values at its places are its words, where they are elements
 pub copied_words : {t : ℕ} (size : Size t) (r : ℕ) (values : List ℕ) → ((p : ℕ) → p < 1024 → get_or values p 0 < 2 ^ t) → r < t

@@ -1,3 +1,5 @@
 pub mod Answers
+pub mod Elements
 pub mod Places
 pub mod Walks
+pub mod Wraps

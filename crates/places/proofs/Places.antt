@@ -37,6 +37,9 @@ size64 = inr (inr (inr refl))
 pub size_some : {t : ℕ} → Size t → 0 < t
 size_some s = each (λ t. 0 < t) (lit< tt) (lit< tt) (lit< tt) (lit< tt) s
 
+pub size-least : {t : ℕ} → Size t → 8 ≤ t
+size-least s = each (λ t. 8 ≤ t) (lit≤ tt) (lit≤ tt) (lit≤ tt) (lit≤ tt) s
+
 pub size-most : {t : ℕ} → Size t → t ≤ 64
 size-most s = each (λ t. t ≤ 64) (lit≤ tt) (lit≤ tt) (lit≤ tt) (lit≤ tt) s
 
@@ -47,6 +50,10 @@ lanes_some s = each (λ t. 0 < lanes t) (lit< tt) (lit< tt) (lit< tt) (lit< tt) 
 -- a value of t bits begins where its word does, and ends with it
 pub whole_word : (t r : ℕ) {w : ℕ} → w ≡ t → r * w % t + w ≤ t
 whole_word t r e = subst (λ w. r * w % t + w ≤ t) (sym e) (omega (arith, mul-mod_left r t))
+
+-- the rows of a block go by eights
+pub size-eights : {t : ℕ} → Size t → t / 8 * 8 ≡ t
+size-eights s = each (λ t. t / 8 * 8 ≡ t) refl refl refl refl s
 
 -- a block has t rows of LANES values
 pub size-lanes : {t : ℕ} → Size t → t * lanes t ≡ 1024

@@ -1,17 +1,19 @@
 // Places, lanes and rows of a block of 1,024 values, and the value transpose.
 //
 // From the crate's src/lib.rs (the order list, T and LANES), src/transpose.rs, and the function index of
-// src/macros.rs. What is the same at all four element sizes stands here; each size has a module of its own.
+// src/macros.rs. What knows no element stands here. The trait of the four types of an element has a module of its own,
+// and so has the transpose, which is one text over it.
 #![tactic(auto)]
 
-pub mod t16;
-pub mod t32;
-pub mod t64;
-pub mod t8;
+mod element;
+mod transposes;
 
 ghost use Rattle.std.specs.Prelude.{◌≡◌, ◌+◌, ◌*◌, ◌%◌};
 ghost use Rattle.places.specs.Answers.{number_of, place_of};
 ghost use Rattle.places.specs.Places as Places;
+
+pub use element::Element;
+pub use transposes::{transpose, untranspose};
 
 // What a call answers: that it is done, or why it is refused.
 #[derive(Clone, Copy)]

@@ -3,12 +3,13 @@
 use mathlib.Core.List.{List}
 use mathlib.Core.Path.{◌≡◌, sym, ap, ap₂, ◌∙◌, subst}
 use Prim.Native.Nat.{ℕ, ◌+◌, ◌*◌, ◌/◌, ◌%◌, ◌^◌, ◌≤◌, ◌<◌}
-use native.Mathlib.Nat.{one-mul, mul_comm, mod-lt, div-lt_iff_lt-mul}
+use native.Mathlib.Nat.{one-mul, mul_comm, mod-lt, mod-eq_of_lt, div-lt_iff_lt-mul}
 use native.Mathlib.Numerals.{add-one}
 use native.Mathlib.Omega.{arith}
 use lib.Arith.{digits_lt}
+use Rattle.std.proofs.lemmas.Nat.{mul-add-lt}
 use lib.Pow.{pow_mono, shl_exact}
-use Rattle.lists.specs.Numbers.{number, digit}
+use Rattle.lists.specs.Numbers.{number, digit, plus}
 use Rattle.lists.proofs.Digits.{number_lt, digit_lt}
 use Rattle.plain.specs.Plain.{bit, bit_at, bit_of}
 
@@ -33,6 +34,10 @@ module _ {f : ℕ → ℕ} (bits : (k : ℕ) → f k < 2) {n v x y : ℕ} (made 
       let room : 2 ^ (n + 1) ≤ 2 ^ t = pow_mono {i = n + 1} {j = t} (omega arith) in
       omega (arith, bit_more)
 
+  pub bit-added : (t : ℕ) → n < t → plus t v y ≡ number 1 f (n + 1)
+  unfolding plus
+  bit-added t h = mod-eq_of_lt (bit-fits t h) ∙ bit_more
+
 -- each bit is 0 or 1
 pub bit-small : (m i : ℕ) → bit m i < 2
 bit-small m i = digit_lt 1 m i
@@ -48,6 +53,14 @@ bit_of_small t w values l k j = bit-small _ _
 -- Bit b of row r is one of the lane's t · w bits,
 pub lane-bit : {t w r b : ℕ} → r < t → b < w → r * w + b < t * w
 lane-bit hr hb = digits_lt hr hb
+
+-- in one of its w words,
+pub lane-word : {t w r b : ℕ} → 0 < t → r < t → b < w → (r * w + b) / t < w
+lane-word {t} {w} {r} {b} some hr hb = (div-lt_iff_lt-mul some).1 (subst (λ n. r * w + b < n) (mul_comm t w) (lane-bit hr hb))
+
+-- each of which is one of the packed words,
+pub word-place : {n w k l : ℕ} → k < w → l < n → n * k + l < n * w
+word-place {n} {w} {k} {l} hk hl = rw (mul_comm n k) (mul-add-lt k n l w hk hl)
 
 -- and so is bit j of word k, which stands in one of the t rows.
 pub word-bit : {t w k j : ℕ} → k < w → j < t → ((k * t + j) / w < t) × ((k * t + j) % w < w)

@@ -1,4 +1,5 @@
 pub mod Answers
 pub mod Bits
 pub mod Laid
+pub mod Singles
 pub mod Words

@@ -25,8 +25,8 @@ plain_unpack_leaves t w values packed = left (answer_for (plain_takes t w values
 abbrev pub plain_single_takes : (t w : ℕ) (packed : List ℕ) (index : ℕ) → List Taken
 plain_single_takes t w packed index = a_width t w ∷ a_packed t w packed ∷ an_index index ∷ []
 
--- It gives the value and its count of words where it is done, and else the refusal. The type of the answer at each
--- element size, `Single`, has these two cases; what they stand for is said in t8, t16, t32 and t64.
+-- It gives the value and its count of words where it is done, and else the refusal. The type of the answer, `Single`,
+-- has these two cases; what they stand for is said in Singles.
 abbrev pub given : {S : Type 0} → (value : (v count : ℕ) → S) (refused : Answer → S) (answer : Answer) (v count : ℕ) → S
 given value refused a v n = pick (is_done a) (value v n) (refused a)
 

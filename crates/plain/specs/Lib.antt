@@ -1,6 +1,3 @@
 pub mod Calls
 pub mod Plain
-pub mod t16
-pub mod t32
-pub mod t64
-pub mod t8
+pub mod Singles

@@ -3,24 +3,258 @@
 //     bit b of row r of lane l is bit (r · W + b) mod T of word (r · W + b) / T of that lane.
 //
 // It is slow, and it is there to be believed: it leans on no code of packing or access, and has no rule of its own for
-// any width. What asks for no element stands here; each element size has a module of its own.
+// any width.
 #![tactic(auto)]
 
-pub mod t16;
-pub mod t32;
-pub mod t64;
-pub mod t8;
-
-ghost use Rattle.std.specs.Prelude.{◌≡◌, ◌+◌, ◌*◌, ◌%◌, ◌≤◌, ◌<◌, leb, ltb};
+ghost use Rattle.std.specs.Prelude.{◌≡◌, ◌+◌, ◌*◌, ◌%◌, ◌^◌, ◌≤◌, ◌<◌, leb, ltb, length};
 ghost use Rattle.lists.specs.Pick.{both};
 ghost use Rattle.places.specs.Places as Places;
 ghost use Rattle.places.specs.Sizes.{Size, lanes};
-ghost use Rattle.plain.specs.Plain.{word_of, new_word_lem, words_for};
+ghost use Rattle.places.specs.Takes.{answer_for};
+ghost use Rattle.plain.specs.Calls.{plain_takes, plain_pack_leaves, plain_unpack_leaves, plain_single_takes, plain_single};
+ghost use Rattle.plain.specs.Plain as Plain;
+ghost use Rattle.plain.specs.Plain.{word_of, new_word_lem, words_for, value_in, plain_value, plain_unpack, word_in, plain_pack};
+ghost use Rattle.plain.specs.Singles.{single_number, answer_of, value_of, words_of};
 
-use places::order;
+use places::{Answer, Element, order};
 
 // What stands for a count where there is none.
 pub const NO_COUNT: usize = usize::MAX;
+
+// The value at one place and how many packed words its bits come from, or the refusal.
+#[derive(Clone, Copy)]
+pub enum Single<E> {
+    Value(E, usize),
+    Refused(Answer),
+}
+
+impl<E: Copy> Single<E> {
+    // The answer in the terms of the other calls.
+    pub fn answer(self) -> Answer
+        ensures { result ≡ answer_of self }
+    {
+        match self {
+            Single::Value(_, _) => Answer::Done,
+            Single::Refused(a) => a,
+        }
+    }
+
+    // The value; 0 after a refusal.
+    pub fn value<const T: usize, const LANES: usize>(self) -> E
+    where
+        E: Element<T, LANES>,
+        ensures { E.number result ≡ value_of (single_number E.number self) }
+    {
+        match self {
+            Single::Value(v, _) => v,
+            Single::Refused(_) => E::of(0),
+        }
+    }
+
+    // The count of words; `NO_COUNT` after a refusal.
+    pub fn words(self) -> usize
+        ensures { result ≡ words_of self }
+    {
+        match self {
+            Single::Value(_, n) => n,
+            Single::Refused(_) => NO_COUNT,
+        }
+    }
+}
+
+// Packs a block of 1,024 values.
+pub fn pack<E: Element<T, LANES>, const T: usize, const LANES: usize>(
+    width: usize,
+    values: &[E],
+    packed: &mut [E],
+) -> Answer
+    ensures value { result ≡ answer_for (plain_takes T width (E.numbers values.now) (E.numbers packed.old)) }
+    ensures packed_after { E.numbers packed.new ≡ plain_pack_leaves T width (E.numbers values.now) (E.numbers packed.old) }
+{
+    let answer = block_answer(width, values, packed);
+    if answer.number() == 0 {
+        pack_words(width, values, packed);
+    }
+    answer
+}
+
+// Unpacks a packed block.
+pub fn unpack<E: Element<T, LANES>, const T: usize, const LANES: usize>(
+    width: usize,
+    packed: &[E],
+    values: &mut [E],
+) -> Answer
+    ensures value { result ≡ answer_for (plain_takes T width (E.numbers values.old) (E.numbers packed.now)) }
+    ensures values_after { E.numbers values.new ≡ plain_unpack_leaves T width (E.numbers values.old) (E.numbers packed.now) }
+{
+    let answer = block_answer(width, values, packed);
+    if answer.number() == 0 {
+        unpack_values(width, packed, values);
+    }
+    answer
+}
+
+// Unpacks the value at one place of a packed block, and counts the words that its bits come from.
+pub fn unpack_single<E: Element<T, LANES>, const T: usize, const LANES: usize>(
+    width: usize,
+    packed: &[E],
+    index: usize,
+) -> Single<E>
+    ensures { single_number E.number result
+        ≡ plain_single Single.Value Single.Refused T width (E.numbers packed.now) index }
+{
+    let answer = single_answer(width, packed, index);
+    if answer.number() != 0 {
+        return Single::Refused(answer);
+    }
+    let value = value_at(width, packed, index);
+    let words = words_for(T, width, row_of(T, index));
+    Single::Value(value, words)
+}
+
+// What pack and unpack answer.
+fn block_answer<E: Element<T, LANES>, const T: usize, const LANES: usize>(
+    width: usize,
+    values: &[E],
+    packed: &[E],
+) -> Answer
+    ensures { result ≡ answer_for (plain_takes T width (E.numbers values.now) (E.numbers packed.now)) }
+{
+    if T < width {
+        return Answer::Width;
+    }
+    let words = LANES * width;
+    if values.len() != 1024 {
+        return Answer::Block;
+    }
+    if packed.len() != words {
+        return Answer::Packed;
+    }
+    Answer::Done
+}
+
+// What single access answers.
+fn single_answer<E: Element<T, LANES>, const T: usize, const LANES: usize>(
+    width: usize,
+    packed: &[E],
+    index: usize,
+) -> Answer
+    ensures { result ≡ answer_for (plain_single_takes T width (E.numbers packed.now) index) }
+{
+    if T < width {
+        return Answer::Width;
+    }
+    if packed.len() != LANES * width {
+        return Answer::Packed;
+    }
+    if 1024 <= index {
+        return Answer::Index(0);
+    }
+    Answer::Done
+}
+
+// Unpacks place by place.
+fn unpack_values<E: Element<T, LANES>, const T: usize, const LANES: usize>(
+    width: usize,
+    packed: &[E],
+    values: &mut [E],
+)
+    requires width_le_t { width ≤ T }
+    requires packed_len { length packed.now ≡ lanes T * width }
+    requires values_len { length values.old ≡ 1024 }
+    ensures { E.numbers values.new ≡ plain_unpack T width (E.numbers packed.now) }
+{
+    for (p, value) in values.iter_mut().enumerate() {
+        *value = value_at(width, packed, p);
+    }
+}
+
+// The value at one place.
+fn value_at<E: Element<T, LANES>, const T: usize, const LANES: usize>(
+    width: usize,
+    packed: &[E],
+    p: usize,
+) -> E
+    requires width_le_t { width ≤ T }
+    requires packed_len { length packed.now ≡ lanes T * width }
+    requires p_bound { p < 1024 }
+    ensures { E.number result ≡ plain_value T width (E.numbers packed.now) p }
+{
+    value_in(width, packed, lane_of(T, p), row_of(T, p))
+}
+
+// The value of a row of a lane, bit by bit.
+fn value_in<E: Element<T, LANES>, const T: usize, const LANES: usize>(
+    width: usize,
+    packed: &[E],
+    lane: usize,
+    row: usize,
+) -> E
+    requires width_le_t { width ≤ T }
+    requires packed_len { length packed.now ≡ lanes T * width }
+    requires lane_bound { (lane < lanes T) × (row < T) }
+    ensures { E.number result ≡ value_in T width (E.numbers packed.now) lane row }
+{
+    let mut value = E::of(0);
+    for b in 0..width {
+        let word = packed[LANES * word_of(T, width, row, b) + lane];
+        value = value.wrapping_add(at_bit(bit(word, bit_in_word(T, width, row, b)), b));
+    }
+    value
+}
+
+// Packs word by word.
+fn pack_words<E: Element<T, LANES>, const T: usize, const LANES: usize>(
+    width: usize,
+    values: &[E],
+    packed: &mut [E],
+)
+    requires width_le_t { width ≤ T }
+    requires packed_len { length packed.old ≡ lanes T * width }
+    requires values_len { length values.now ≡ 1024 }
+    ensures { E.numbers packed.new ≡ plain_pack T width (E.numbers values.now) }
+{
+    for (i, word) in packed.iter_mut().enumerate() {
+        *word = word_in(width, values, i % LANES, i / LANES);
+    }
+}
+
+// Word k of a lane, bit by bit: the sentence read the other way round.
+fn word_in<E: Element<T, LANES>, const T: usize, const LANES: usize>(
+    width: usize,
+    values: &[E],
+    lane: usize,
+    k: usize,
+) -> E
+    requires width_le_t { width ≤ T }
+    requires values_len { length values.now ≡ 1024 }
+    requires lane_bound { (lane < lanes T) × (k < width) }
+    ensures { E.number result ≡ word_in T width (E.numbers values.now) lane k }
+{
+    let mut word = E::of(0);
+    for j in 0..T {
+        let at = k * T + j;
+        let value = values[place(at / width, lane)];
+        word = word.wrapping_add(at_bit(bit(value, at % width), j));
+    }
+    word
+}
+
+// Bit i of a number.
+fn bit<E: Element<T, LANES>, const T: usize, const LANES: usize>(m: E, i: usize) -> E
+    requires { i < T }
+    ensures { E.number result ≡ Plain.bit (E.number m) i }
+{
+    m.shr(i).low(1)
+}
+
+// A bit at place i of a number.
+fn at_bit<E: Element<T, LANES>, const T: usize, const LANES: usize>(x: E, i: usize) -> E
+    requires { (E.number x < 2) × (i < T) }
+    ensures { E.number result ≡ E.number x * 2 ^ i }
+{
+    x.shl(i)
+}
 
 // The place of a row in a lane.
 fn place(row: usize, lane: usize) -> usize
@@ -103,10 +337,8 @@ fn words_for(t: usize, width: usize, row: usize) -> usize
     ensures { result ≡ words_for t width row width }
 {
     let mut words = 0;
-    let mut b = 0;
-    while b < width {
+    for b in 0..width {
         words += new_word(t, width, row, b);
-        b += 1;
     }
     words
 }

@@ -1,26 +1,13 @@
--- What the row operations give of rows that are given by rules, and what wrapping subtraction gives, over the element
--- size.
+-- What the row operations give of rows that are given by rules, over the element size.
 -- Assumes nothing.
-use Rattle.std.proofs.Common.{◌≡◌, ℕ, ◌+◌, ◌-◌, ◌*◌, ◌/◌, ◌%◌, ◌^◌, ◌<◌, ◌≤◌, List, length, get_or, sym, ap, ◌∙◌, ap₂, mod-eq_of_lt, one-mul, arith, le-leb}
-use native.Mathlib.Nat.{mod-add-mod, add-mod_right}
+use Rattle.std.proofs.Common.{◌≡◌, ℕ, ◌*◌, ◌/◌, ◌%◌, ◌^◌, ◌<◌, ◌≤◌, List, ◌++◌, length, get_or, take, drop, get_or-take, length-take, zero-add, sym, ap, ◌∙◌, ap₂, mod-eq_of_lt, arith, le-leb}
 use lib.Bits.{bit_or}
-use lib.Pow.{pow-lt}
 use borrow.Author.Tests.{lt-leb}
 use Rattle.lists.specs.Tab.{tab, over}
 use Rattle.lists.specs.Numbers.{plus, minus}
-use Rattle.lists.proofs.Tabs.{tab_ext, get_d_tab}
+use Rattle.lists.proofs.Tabs.{tab_ext, tab_get_d, get_d_tab}
 use Rattle.places.specs.Sizes.{lanes}
 use Rattle.rows.specs.Rows.{splat_of, load_of, store_of, shr_of, or_shl_of, mask_of, add_of, sub_of}
-
--- one, shifted up by less than t, is the power itself
-pub one_shifted : (t w : ℕ) → w < t → 1 * 2 ^ w % 2 ^ t ≡ 2 ^ w
-one_shifted t w h = ap (λ k. k % 2 ^ t) (one-mul (2 ^ w)) ∙ mod-eq_of_lt (pow-lt h)
-
--- the number r below n that b, added modulo n, takes back to a, is a plus n minus b, modulo n
-pub sub_wraps : (n a b r : ℕ) → b < n → r < n → (r + b) % n ≡ a → r ≡ (a + (n - b)) % n
-sub_wraps n a b r hb hr e =
-    let h : r + b + (n - b) ≡ r + n = omega arith in
-    sym (ap (λ k. (k + (n - b)) % n) (sym e) ∙ mod-add-mod (r + b) n (n - b) ∙ ap (λ k. k % n) h ∙ add-mod_right r n ∙ mod-eq_of_lt hr)
 
 -- a load and a store by the test of their room
 
@@ -39,6 +26,18 @@ store_short out x h = simp (lt-leb (length x) (length out) h)
 pub store-room : (out x : List ℕ) → length x ≤ length out → over 0 x out ≡ store_of out x
 unfolding store_of
 store-room out x h = simp (le-leb (length x) (length out) h)
+
+-- what stands at the front is loaded, and the row is stored over the front
+
+pub load-take : (t : ℕ) (source : List ℕ) → lanes t ≤ length source → take (lanes t) source ≡ load_of t source
+load-take t source h =
+    sym (tab_get_d (take (lanes t) source) 0 (lanes t) (simp length-take (omega arith)))
+    ∙ tab_ext (lanes t) _ _ 0 (λ l b. get_or-take (lanes t) source l 0 b)
+    ∙ load-room t source h
+
+pub store-front : (out x : List ℕ) (n : ℕ) → length x ≡ n → n ≤ length out → x ++ drop n out ≡ store_of out x
+unfolding over
+store-front out x n e h = ap (λ k. x ++ drop k out) (sym e ∙ sym (zero-add (length x))) ∙ store-room out x (omega (arith, e))
 
 -- what an operation gives of rows that are given by rules
 

@@ -14,7 +14,7 @@ ghost use Rattle.trickle.specs.Answers.{number_of, place_of};
 ghost use Rattle.trickle.specs.Trickle.{can_be, counts_as, started_of, fed_of, ask_answer, ask_leaves};
 
 use little::read_words;
-use packing::t64::unpack;
+use packing::unpack;
 
 // What start and ask answer: that the call is done, or why it is refused.
 #[derive(Clone, Copy)]
@@ -174,10 +174,8 @@ fn copy_in(to: &mut [u8], at: usize, from: &[u8], n: usize)
     requires n_in_bounds_2 { n ≤ length from.now }
     ensures { to.new ≡ over at (take n from.now) to.old }
 {
-    let mut i = 0;
-    while i < n {
+    for i in 0..n {
         to[at + i] = from[i];
-        i += 1;
     }
 }
 

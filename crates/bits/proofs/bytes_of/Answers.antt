@@ -8,21 +8,18 @@ use Rattle.bits.proofs.Gathers.{word_more}
 use Rattle.bits.proofs.bytes_of.Goals as goal
 
 pub loop-k-init : goal.loop-k-init
-loop-k-init c = (omega arith, refl, written_none (omega arith))
+loop-k-init c = written_none (omega arith)
 
 pub slice_bounds-write_word-end : goal.slice_bounds-write_word-end
-slice_bounds-write_word-end c = omega (arith, written-length c.loop-k.invariant.2)
+slice_bounds-write_word-end c = omega (arith, written-length c.loop-k.invariant)
 
 pub write_word-requires : goal.write_word-requires
-write_word-requires c = omega (arith, written-length c.loop-k.invariant.2)
+write_word-requires c = omega (arith, written-length c.loop-k.invariant)
 
 pub loop-k-preserved : goal.loop-k-preserved
 loop-k-preserved c =
-    let inv = c.loop-k.invariant in
-    (omega arith, inv.1, word_more c.args.block _ inv.1 (omega arith) inv.2 c.write_word.ensures)
+    word_more c.args.block _ refl c.loop-k-test.true c.loop-k.invariant c.write_word.ensures
 
 pub returns : goal.returns
 unfolding bytes_of
-returns c =
-    let inv = c.loop-k.invariant in
-    written_all inv.2 128 (omega arith) inv.1
+returns c = written_all c.loop-k.invariant 128 (omega arith) refl

@@ -11,7 +11,7 @@ use Rattle.bits.proofs.lay_out.Goals as goal
 use Rattle.bits.proofs.lay_out.Goals.{In-loop-w}
 
 pub loop-w-init : goal.loop-w-init
-loop-w-init c = (omega arith, refl, written_none (omega arith))
+loop-w-init c = written_none (omega arith)
 
 -- the bytes that a turn gathers are among the 128
 within : (c : In-loop-w)
@@ -37,14 +37,11 @@ gather-requires c = within (goal.at.gather-requires c).In-loop-w
 
 pub loop-w-preserved : goal.loop-w-preserved
 unfolding round_start
-loop-w-preserved c =
-    let inv = c.loop-w.invariant in
-    (omega arith, inv.1, written_next inv.2 _ _ (omega arith) (omega arith) c.gather.ensures)
+loop-w-preserved c = written_next c.loop-w.invariant _ _ (omega arith) (omega arith) c.gather.ensures
 
 pub returns : goal.returns
 unfolding gathers_of
 returns c =
-    let inv = c.loop-w.invariant in
     let args = c.args in
-    written_all inv.2 16 (omega arith) inv.1
+    written_all c.loop-w.invariant 16 (omega arith) refl
     ∙ ap (λ bytes. tab 16 (λ w. gather_of bytes (round_start args.turns args.near args.far w) 8)) c.bytes_of-bytes.ensures

@@ -11,7 +11,7 @@ use Rattle.bits.proofs.unscatter.Goals as goal
 use Rattle.bits.proofs.unscatter.Goals.{After-order}
 
 pub loop-g-init : goal.loop-g-init
-loop-g-init c = (omega arith, refl, written_none (omega arith))
+loop-g-init c = written_none (omega arith)
 
 -- what the order list gives is below 8
 small : (c : After-order) → c.order.result < 8
@@ -30,18 +30,13 @@ pub loop-g-preserved : goal.loop-g-preserved
 unfolding unscatter_start
 loop-g-preserved c =
     let bytes = c.bytes_of-bytes.result in
-    let inv = c.loop-g.invariant in
-    let g = c.loop-g.g in (
-      omega arith,
-      inv.1,
-      written_next inv.2 _ _ (omega arith) (omega arith)
-          (c.transpose_8x8.ensures
-          ∙ ap turn_of (c.gather.ensures ∙ ap (λ o. gather_of bytes (o * 2 + g / 8) 16) c.order.ensures)),
-    )
+    let g = c.loop-g.g in
+    written_next c.loop-g.invariant _ _ (omega arith) (omega arith)
+    (c.transpose_8x8.ensures
+    ∙ ap turn_of (c.gather.ensures ∙ ap (λ o. gather_of bytes (o * 2 + g / 8) 16) c.order.ensures))
 
 pub returns : goal.returns
 unfolding turns_of
 returns c =
-    let inv = c.loop-g.invariant in
-    written_all inv.2 16 (omega arith) inv.1
+    written_all c.loop-g.invariant 16 (omega arith) refl
     ∙ ap (λ bytes. tab 16 (λ g. turn_of (gather_of bytes (unscatter_start g) 16))) c.bytes_of-bytes.ensures

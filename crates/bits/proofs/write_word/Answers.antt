@@ -9,19 +9,17 @@ use Rattle.lists.proofs.Tabs.{written_none, written_next, written-length}
 use Rattle.bits.proofs.write_word.Goals as goal
 
 pub loop-i-init : goal.loop-i-init
-loop-i-init c = (omega arith, written_none (omega arith))
+loop-i-init c = written_none (omega arith)
 
 pub bounds-bytes-at : goal.bounds-bytes-at
-bounds-bytes-at c = omega (arith, written-length c.loop-i.invariant.1)
+bounds-bytes-at c = omega (arith, written-length c.loop-i.invariant)
 
 pub loop-i-preserved : goal.loop-i-preserved
 unfolding digit
-loop-i-preserved c = (
-  omega arith,
-  written_next c.loop-i.invariant.1 _ _ (omega arith) refl (ap (λ k. c.args.word / 2 ^ k % 2 ^ 8) (mul_comm c.loop-i.i 8)),
-)
+loop-i-preserved c =
+    written_next c.loop-i.invariant _ _ (omega arith) refl (ap (λ k. c.args.word / 2 ^ k % 2 ^ 8) (mul_comm c.loop-i.i 8))
 
 pub returns : goal.returns
 returns c =
     let e : c.loop-i.i ≡ 8 = omega arith in
-    rw e at c.loop-i.invariant.1.is
+    rw e at c.loop-i.invariant.is

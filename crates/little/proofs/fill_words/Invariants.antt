@@ -1,14 +1,10 @@
 -- `little::fill_words` meets its contract. The loop's invariant: the first i numbers are read.
 -- Assumes nothing.
-use Prim.Native.Nat.{◌*◌, ◌-◌, ◌≤◌}
-use lib.ListN.{length}
+use Prim.Native.Nat.{◌*◌}
 use Rattle.lists.proofs.Tabs.{Written}
 use Rattle.little.specs.Little.{little}
 use Rattle.little.proofs.fill_words.Given as goal
 
 abbrev pub invariant-loop-i : goal.invariant-loop-i
 invariant-loop-i l =
-    (l.i ≤ length l.initial.words) × Written 0 l.i (λ k. little l.bytes (k * 8) 8) l.initial.words l.words
-
-abbrev pub decreases-loop-i : goal.decreases-loop-i
-decreases-loop-i l = length l.initial.words - l.i
+    Written 0 l.i (λ k. little l.bytes (k * 8) 8) l.initial.words l.words

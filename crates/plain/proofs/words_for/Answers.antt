@@ -11,7 +11,7 @@ use Rattle.plain.proofs.words_for.Goals.{After-new_word-words}
 
 pub loop-b-init : goal.loop-b-init
 unfolding words_for
-loop-b-init c = (omega arith, refl)
+loop-b-init c = refl
 
 pub new_word-words-requires : goal.new_word-words-requires
 new_word-words-requires c =
@@ -21,16 +21,16 @@ new_word-words-requires c =
 next : (c : After-new_word-words)
     → let args = c.args in
     c.loop-b.words + c.new_word-words.result ≡ words_for args.t args.width args.row (c.loop-b.b + 1)
-next c = ap₂ (λ m n. m + n) c.loop-b.invariant.1 c.new_word-words.ensures ∙ sym (words-next _ _ _ _)
+next c = ap₂ (λ m n. m + n) c.loop-b.invariant c.new_word-words.ensures ∙ sym (words-next _ _ _ _)
 
 pub overflow_add-words : goal.overflow_add-words
 overflow_add-words c =
     omega (arith, next (goal.at.overflow_add-words c).After-new_word-words, words-few c.args.t c.args.width c.args.row (c.loop-b.b + 1), size-most c.requires.size)
 
 pub loop-b-preserved : goal.loop-b-preserved
-loop-b-preserved c = (omega arith, next (goal.at.loop-b-preserved c).After-new_word-words)
+loop-b-preserved c = next (goal.at.loop-b-preserved c).After-new_word-words
 
 pub returns : goal.returns
 returns c =
     let args = c.args in
-    c.loop-b.invariant.1 ∙ ap (words_for args.t args.width args.row) (omega arith)
+    c.loop-b.invariant ∙ ap (words_for args.t args.width args.row) (omega arith)

@@ -1,12 +1,8 @@
 -- `plain::words_for` meets its contract. The loop's invariant: the words of the first b bits are counted.
 -- Assumes nothing.
 use mathlib.Core.Path.{◌≡◌}
-use Prim.Native.Nat.{◌-◌, ◌≤◌}
 use Rattle.plain.specs.Plain.{words_for}
 use Rattle.plain.proofs.words_for.Given as goal
 
 abbrev pub invariant-loop-b : goal.invariant-loop-b
-invariant-loop-b l = (l.b ≤ l.width) × (l.words ≡ words_for l.t l.width l.row l.b)
-
-abbrev pub decreases-loop-b : goal.decreases-loop-b
-decreases-loop-b l = l.width - l.b
+invariant-loop-b l = l.words ≡ words_for l.t l.width l.row l.b

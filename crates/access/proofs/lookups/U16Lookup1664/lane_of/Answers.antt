@@ -1,0 +1,9 @@
+-- `<u16 as Lookup>::lane_of` meets its contract: the arithmetic is the rule for the lane.
+-- Assumes nothing.
+use Rattle.std.proofs.Common.{refl}
+use Rattle.places.specs.Places.{lane}
+use Rattle.access.proofs.lookups.U16Lookup1664.lane_of.Goals as goal
+
+pub returns : goal.returns
+unfolding lane
+returns c = refl

@@ -1,0 +1,13 @@
+-- `<u32 as Lookup>::lane_of` meets its contract: the table is the one that is compared with its rule.
+-- Assumes nothing.
+use Rattle.std.proofs.Common.{◌%◌, arith}
+use Rattle.std.proofs.Common.{ap, ◌∙◌, get_or}
+use Rattle.lists.proofs.Tabs.{get_d_tab}
+use Rattle.places.specs.Places.{lane}
+use Rattle.places.specs.Sizes.{t32}
+use Rattle.access.proofs.Tables.{lanes-t32, lanes_rule_t32}
+use Rattle.access.proofs.lookups.U32Lookup3232.lane_of.Goals as goal
+
+pub returns : goal.returns
+unfolding lanes-t32
+returns c = ap (λ l. get_or l (c.args.place % 1024) 0) lanes_rule_t32 ∙ get_d_tab 1024 (lane t32) (c.args.place % 1024) 0 (omega arith)

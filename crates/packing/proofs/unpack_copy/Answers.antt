@@ -1,0 +1,38 @@
+-- `packing::unpack_copy` meets its contract.
+-- Assumes nothing.
+use Rattle.std.proofs.Common.{◌∙◌, arith}
+use Rattle.places.proofs.Elements.{numbers-length}
+use Rattle.rows.proofs.Blocks.{laid_none, laid_next, laid_all}
+use Rattle.rows.proofs.Blocks.{starts_first, starts_at, starts_room, starts_next}
+use Rattle.packing.specs.Packed.{unpack_of}
+use Rattle.packing.proofs.Walks.{copied, copied_room}
+use Rattle.packing.proofs.unpack_copy.Goals as goal
+
+pub loop-r-init : goal.loop-r-init
+loop-r-init g c = (starts_first, laid_none (numbers-length g.met.E.Element.one_by_one _ ∙ c.requires.values_len))
+
+pub row_at-requires : goal.row_at-requires
+row_at-requires g c =
+    let m = g.met.E.Element in
+    (m.row_fits, rw (c.requires.packed_len, ← m.side_by_side) (copied_room m.size c.loop-r.r c.loop-r-test.true))
+
+pub put_at-requires : goal.put_at-requires
+put_at-requires g c =
+    let m = g.met.E.Element in
+    let inv = c.loop-r.invariant in
+    (m.row_fits, omega (arith, starts_room m.size c.loop-r-test.true inv.0, inv.1.long, numbers-length m.one_by_one c.loop-r.values))
+
+pub loop-r-preserved : goal.loop-r-preserved
+loop-r-preserved g c =
+    let m = g.met.E.Element in
+    let packed = g.E.Element.numbers c.args.packed.now in
+    let inv = c.loop-r.invariant in
+    let hr = c.loop-r-test.true in
+    let row = copied m.size m.side_by_side packed c.are_elements.ensures hr c.row_at.ensures in (
+      starts_next m.size hr inv.0 c.next_start-start.ensures,
+      laid_next m.size hr inv.1 (starts_at m.size hr inv.0) row c.put_at.ensures,
+    )
+
+pub returns : goal.returns
+unfolding unpack_of
+returns g c = laid_all g.met.E.Element.size c.loop-r.invariant.1 (omega arith)

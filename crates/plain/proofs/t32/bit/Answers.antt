@@ -1,8 +1,0 @@
--- Written by tools/sizes from the text of size 64: edit that one, and run tools/sizes.
--- `plain::t32::bit` meets its contract: a shift by i brings bit i to the lowest place.
--- Assumes nothing.
-use Rattle.plain.proofs.Bits.{bit_shift}
-use Rattle.plain.proofs.t32.bit.Goals as goal
-
-pub returns : goal.returns
-returns c = bit_shift _ _
