@@ -11,6 +11,7 @@ use lib.Dec.{eqb, ltb, leb}
 use lib.ListN.{length, take, drop, replicate, length-drop, length-replicate}
 use lib.Seq.{take_all, length-take-le}
 use borrow.Author.Tests.{le-leb, lt-leb, lt-ltb, le-ltb, eq-eqb, ne_eqb}
+use Rattle.std.specs.Prelude.{Ok, Err}
 use Rattle.lists.specs.Tests.{unless}
 use Rattle.lists.specs.Pick.{pick}
 use Rattle.lists.specs.Search.{first_beyond}
@@ -27,11 +28,11 @@ use Rattle.runs.specs.Runs.{decode_of}
 use Rattle.little.specs.Little.{read_leaves}
 pub use Rattle.little.proofs.Little.{length-numbers, numbers-read}
 use Rattle.contents.specs.declared.Entry.{Entry}
-use Rattle.contents.specs.declared.FileAnswer.{FileAnswer}
-use Rattle.contents.specs.declared.FileAnswer.TheVariants.{Done, Block, Cut, BadEntry, Over, Runs}
-use Rattle.contents.specs.Answers.{file_answer, number_of, left}
+use Rattle.contents.specs.declared.FileRefusal.{FileRefusal}
+use Rattle.contents.specs.declared.FileRefusal.TheVariants.{Block, Cut, BadEntry, Over, Runs}
+use Rattle.contents.specs.Answers.{file_answer, left}
 use Rattle.contents.specs.Contents.{is_laid_out}
-use Rattle.contents.proofs.Answers.{passed, stopped, none_left, left-refused}
+use Rattle.contents.proofs.Answers.{passed, stopped, none_left, left-err}
 use Rattle.contents.proofs.Laid.{laid_packed, laid_frame}
 use Rattle.bodies.specs.Bodies.{words_from, packed_from, run_indices, value_count, block_of, indexed, has_good_runs, body_tests, block_tests, block_leaves}
 
@@ -120,18 +121,18 @@ module _ (body indices values output : List ℕ) (b : length body ≡ 2048 + 8 *
 
 -- The last test is that of the run indices. Where they are good the answer is done, and where they are not it is a
 -- refusal.
-last_answer : (b : Bool) → file_answer ((b, Runs 0) ∷ []) ≡ pick b Done (Runs 0)
+last_answer : (b : Bool) → file_answer ((b, Err (Runs 0)) ∷ []) ≡ pick b (Ok tt) (Err (Runs 0))
 last_answer true = passed _ [] refl ∙ none_left
 last_answer false = stopped _ [] refl
 
-pub runs_done : {b : Bool} → b ≡ true → Done ≡ file_answer ((b, Runs 0) ∷ [])
-runs_done {b} h = sym (last_answer b ∙ ap (λ x. pick x Done (Runs 0)) h)
+pub runs_done : {b : Bool} → b ≡ true → Ok tt ≡ file_answer ((b, Err (Runs 0)) ∷ [])
+runs_done {b} h = sym (last_answer b ∙ ap (λ x. pick x (Ok tt) (Err (Runs 0))) h)
 
-pub runs_bad : {b : Bool} → b ≡ false → Runs 0 ≡ file_answer ((b, Runs 0) ∷ [])
-runs_bad {b} h = sym (last_answer b ∙ ap (λ x. pick x Done (Runs 0)) h)
+pub runs_bad : {b : Bool} → b ≡ false → Err (Runs 0) ≡ file_answer ((b, Err (Runs 0)) ∷ [])
+runs_bad {b} h = sym (last_answer b ∙ ap (λ x. pick x (Ok tt) (Err (Runs 0))) h)
 
 -- So an output is left as the run indices say.
-last_left : (b : Bool) (new old : List ℕ) → left (file_answer ((b, Runs 0) ∷ [])) new old ≡ pick b new old
+last_left : (b : Bool) (new old : List ℕ) → left (file_answer ((b, Err (Runs 0)) ∷ [])) new old ≡ pick b new old
 last_left true new old = ap (λ a. left a new old) (last_answer true)
 last_left false new old = ap (λ a. left a new old) (last_answer false)
 
@@ -144,7 +145,7 @@ module _ (e : Entry) (body : List ℕ) where
 
   -- so the call is done when its block is laid down.
   pub other-done : (new output : List ℕ) → (e.kind ≡ 3 → ⊥) → new ≡ block_of e body
-      → (Done ≡ file_answer ((has_good_runs e body, Runs 0) ∷ [])) × (new ≡ pick (has_good_runs e body) (block_of e body) output)
+      → (Ok tt ≡ file_answer ((has_good_runs e body, Err (Runs 0)) ∷ [])) × (new ≡ pick (has_good_runs e body) (block_of e body) output)
   other-done new output k h = (runs_done (other-runs k), h ∙ sym (ap (λ b. pick b (block_of e body) output) (other-runs k)))
 
   -- In a body of runs every index is looked at.
@@ -152,24 +153,24 @@ module _ (e : Entry) (body : List ℕ) where
   unfolding has_good_runs
   runs-runs k = simp (eq-eqb e.kind 3 k)
 
-  pub not_laid : is_laid_out e ≡ false → file_answer (body_tests e body) ≡ BadEntry 0
+  pub not_laid : is_laid_out e ≡ false → file_answer (body_tests e body) ≡ Err (BadEntry 0)
   not_laid f = stopped _ _ f
 
   module _ (good : is_laid_out e ≡ true) where
     laid : file_answer (body_tests e body)
-        ≡ file_answer ((leb e.length (length body), Cut) ∷ (leb (length body) e.length, Over) ∷ (has_good_runs e body, Runs 0) ∷ [])
+        ≡ file_answer ((leb e.length (length body), Err Cut) ∷ (leb (length body) e.length, Err Over) ∷ (has_good_runs e body, Err (Runs 0)) ∷ [])
     laid = passed _ _ good
 
-    pub body-cut : length body < e.length → file_answer (body_tests e body) ≡ Cut
+    pub body-cut : length body < e.length → file_answer (body_tests e body) ≡ Err Cut
     body-cut h = laid ∙ stopped _ _ (lt-leb e.length (length body) h)
 
-    pub body-over : e.length < length body → file_answer (body_tests e body) ≡ Over
+    pub body-over : e.length < length body → file_answer (body_tests e body) ≡ Err Over
     body-over h =
         laid
         ∙ passed _ _ (le-leb e.length (length body) (omega arith))
         ∙ stopped _ _ (lt-leb (length body) e.length h)
 
-    pub body-whole : length body ≡ e.length → file_answer (body_tests e body) ≡ file_answer ((has_good_runs e body, Runs 0) ∷ [])
+    pub body-whole : length body ≡ e.length → file_answer (body_tests e body) ≡ file_answer ((has_good_runs e body, Err (Runs 0)) ∷ [])
     body-whole h =
         laid
         ∙ passed _ _ (le-leb e.length (length body) (omega arith))
@@ -177,20 +178,25 @@ module _ (e : Entry) (body : List ℕ) where
 
   -- The length of an output is tested first, and after a refusal the output holds what it held.
   module _ (output : List ℕ) where
-    pub bad_output : (length output ≡ 1024 → ⊥) → file_answer (block_tests e body output) ≡ Block
+    pub bad_output : (length output ≡ 1024 → ⊥) → file_answer (block_tests e body output) ≡ Err Block
     bad_output h = stopped _ _ (ne_eqb (length output) 1024 h)
 
     pub good-output : length output ≡ 1024 → file_answer (block_tests e body output) ≡ file_answer (body_tests e body)
     good-output o = passed _ _ (eq-eqb (length output) 1024 o)
 
-    pub refused : {a : FileAnswer} → file_answer (block_tests e body output) ≡ a → (number_of a ≡ 0 → ⊥)
-        → (a ≡ file_answer (block_tests e body output)) × (output ≡ block_leaves e body output)
+    pub refused : {r : FileRefusal} → file_answer (block_tests e body output) ≡ Err r
+        → (Err r ≡ file_answer (block_tests e body output)) × (output ≡ block_leaves e body output)
     unfolding block_leaves
-    refused {a} r h = (sym r, sym (ap (λ x. left x (block_of e body) output) r ∙ left-refused a (block_of e body) output h))
+    refused {r} is = (sym is, sym (ap (λ x. left x (block_of e body) output) is ∙ left-err r (block_of e body) output))
+
+    -- So it is for a body that is not as its entry says.
+    pub not_whole : {r : FileRefusal} → length output ≡ 1024 → Err r ≡ file_answer (body_tests e body)
+        → (Err r ≡ file_answer (block_tests e body output)) × (output ≡ block_leaves e body output)
+    not_whole o is = refused (good-output o ∙ sym is)
 
     -- For a body that is as its entry says, the run indices decide.
     module _ (good : is_laid_out e ≡ true) (h : length body ≡ e.length) (o : length output ≡ 1024) where
-      pub block_answer : file_answer (block_tests e body output) ≡ file_answer ((has_good_runs e body, Runs 0) ∷ [])
+      pub block_answer : file_answer (block_tests e body output) ≡ file_answer ((has_good_runs e body, Err (Runs 0)) ∷ [])
       block_answer = good-output o ∙ body-whole good h
 
       pub block_left : block_leaves e body output ≡ pick (has_good_runs e body) (block_of e body) output

@@ -2,7 +2,7 @@
 -- kind 2 sixteen base words and packed differences, kind 3 run indices and run values. Then what is tested of a body
 -- (R92).
 -- Assumes nothing.
-use Rattle.std.specs.Prelude.{Bool, true, List, [], ◌∷◌, ℕ, ◌*◌, ◌-◌, ◌/◌, eqb, leb, length, drop}
+use Rattle.std.specs.Prelude.{Bool, true, List, [], ◌∷◌, ℕ, ◌*◌, ◌-◌, ◌/◌, eqb, leb, length, drop, Err}
 use Rattle.lists.specs.Tests.{long}
 use Rattle.lists.specs.Pick.{pick}
 use Rattle.lists.specs.Search.{first_beyond}
@@ -11,7 +11,7 @@ use Rattle.packing.specs.Packed.{unpack_of}
 use Rattle.deltas.specs.Deltas.{unfor_pack_of, undelta_pack_of}
 use Rattle.runs.specs.Runs.{decode_of}
 use Rattle.little.specs.Little.{numbers_of}
-use Rattle.contents.specs.declared.FileAnswer.TheVariants.{BadEntry, Block, Cut, Over, Runs}
+use Rattle.contents.specs.declared.FileRefusal.TheVariants.{BadEntry, Block, Cut, Over, Runs}
 use Rattle.contents.specs.declared.Entry.{Entry}
 use Rattle.contents.specs.Answers.{FileTest, file_answer, left}
 use Rattle.contents.specs.Contents.{is_laid_out}
@@ -54,15 +54,15 @@ has_good_runs e body = pick (eqb e.kind 3) (indexed (value_count e) body) true
 -- 13 is 0.
 abbrev pub body_tests : (e : Entry) (body : List ℕ) → List FileTest
 body_tests e body =
-    (is_laid_out e, BadEntry 0)
-    ∷ (leb e.length (length body), Cut)
-    ∷ (leb (length body) e.length, Over)
-    ∷ (has_good_runs e body, Runs 0)
+    (is_laid_out e, Err (BadEntry 0))
+    ∷ (leb e.length (length body), Err Cut)
+    ∷ (leb (length body) e.length, Err Over)
+    ∷ (has_good_runs e body, Err (Runs 0))
     ∷ []
 
 -- Laying a block down tests its output too.
 abbrev pub block_tests : (e : Entry) (body output : List ℕ) → List FileTest
-block_tests e body output = (long 1024 output, Block) ∷ body_tests e body
+block_tests e body output = (long 1024 output, Err Block) ∷ body_tests e body
 
 -- Laying a block down leaves this in its output.
 unfoldable pub block_leaves : (e : Entry) (body output : List ℕ) → List ℕ

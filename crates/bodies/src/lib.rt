@@ -5,38 +5,34 @@
 
 mod walks;
 
-ghost use Rattle.std.specs.Prelude.{◌≡◌, true, [], ◌∷◌, ◌+◌, ◌*◌, ◌≤◌, ◌<◌, min, max, eqb, length};
+ghost use Rattle.std.specs.Prelude.{◌≡◌, true, [], ◌∷◌, ◌+◌, ◌*◌, ◌≤◌, ◌<◌, min, max, eqb, length, Err, IfErr, OnOk};
 ghost use Rattle.lists.specs.Pick.{pick, both};
 ghost use Rattle.lists.specs.Ends.{highest_of, lowest_of};
 ghost use Rattle.places.specs.Answers.{is_done};
 ghost use Rattle.places.specs.Sizes.{t64, lanes};
 ghost use Rattle.deltas.specs.Deltas.{undelta_pack_of};
 ghost use Rattle.runs.specs.Runs.{decode_of};
-ghost use Rattle.contents.specs.declared.FileAnswer.TheVariants.{Runs};
-ghost use Rattle.contents.specs.Answers.{file_answer, number_of};
+ghost use Rattle.contents.specs.declared.FileRefusal.TheVariants.{Runs};
+ghost use Rattle.contents.specs.Answers.{file_answer};
 ghost use Rattle.contents.specs.Contents.{is_laid_out};
 ghost use Rattle.bodies.specs.Ranges.{is_range};
 ghost use Rattle.bodies.specs.Bodies.{run_indices, words_from, packed_from, block_of, indexed, has_good_runs, body_tests, block_tests, block_leaves};
 
-use contents::{Entry, FileAnswer, Range};
+use contents::{Entry, FileAnswer, FileRefusal, Range};
 use little::{read_pairs, read_words};
 use places::Answer;
-use runs::highest;
-use runs::t64::decode;
+use runs::{decode, highest};
 use walks::{raised_out, row_of, summed_out};
 
 // Whether the body is as its entry says.
 pub fn check(e: Entry, body: &[u8]) -> FileAnswer
     ensures { result ≡ file_answer (body_tests e body.now) }
 {
-    let answer = check_length(e, body);
-    if answer.number() != 0 {
-        return answer;
-    }
+    check_length(e, body)?;
     if !has_good_runs(e, body) {
-        return FileAnswer::Runs(0);
+        return Err(FileRefusal::Runs(0));
     }
-    FileAnswer::Done
+    Ok(())
 }
 
 // Lays down the block that the entry and its body stand for.
@@ -45,12 +41,9 @@ pub fn block_of(e: Entry, body: &[u8], output: &mut [u64]) -> FileAnswer
     ensures output_after { output.new ≡ block_leaves e body.now output.old }
 {
     if output.len() != 1024 {
-        return FileAnswer::Block;
+        return Err(FileRefusal::Block);
     }
-    let answer = check_length(e, body);
-    if answer.number() != 0 {
-        return answer;
-    }
+    check_length(e, body)?;
     lay_down(e, body, output)
 }
 
@@ -62,13 +55,11 @@ pub fn range_of(values: &[u64]) -> Range
     let n = values.len() / 2;
     let mut low: u64 = u64::MAX;
     let mut high: u64 = 0;
-    let mut i = 0;
-    while i < n {
+    for i in 0..n {
         let a = values[i * 2];
         let b = values[i * 2 + 1];
         low = lower(low, lower(a, b));
         high = higher(high, higher(a, b));
-        i += 1;
     }
     if n * 2 < values.len() {
         let value = values[n * 2];
@@ -115,20 +106,20 @@ fn is_same(range: Range, found: Range) -> bool
 
 // Whether the entry is as laid out and the body as long as it says. After this only the run indices are left to test.
 fn check_length(e: Entry, body: &[u8]) -> FileAnswer
-    ensures value { (number_of result ≡ 0 → ⊥) → result ≡ file_answer (body_tests e body.now) }
-    ensures e_value { number_of result ≡ 0 → (is_laid_out e ≡ true) × (length body.now ≡ e.length) }
+    ensures refusal { IfErr result (λ refusal. Err refusal ≡ file_answer (body_tests e body.now)) }
+    ensures e_value { OnOk result ((is_laid_out e ≡ true) × (length body.now ≡ e.length)) }
 {
     if !e.is_laid_out() {
-        return FileAnswer::BadEntry(0);
+        return Err(FileRefusal::BadEntry(0));
     }
     let size = e.length as usize;
     if body.len() < size {
-        return FileAnswer::Cut;
+        return Err(FileRefusal::Cut);
     }
     if size < body.len() {
-        return FileAnswer::Over;
+        return Err(FileRefusal::Over);
     }
-    FileAnswer::Done
+    Ok(())
 }
 
 // Whether every run index is in range, in a body of as many bytes as its entry says.
@@ -159,7 +150,7 @@ fn lay_down(e: Entry, body: &[u8], output: &mut [u64]) -> FileAnswer
     requires e_value { is_laid_out e ≡ true }
     requires body_len { length body.now ≡ e.length }
     requires output_len { length output.old ≡ 1024 }
-    ensures value { result ≡ file_answer ((has_good_runs e body.now, Runs 0) ∷ []) }
+    ensures value { result ≡ file_answer ((has_good_runs e body.now, Err (Runs 0)) ∷ []) }
     ensures output_after { output.new
         ≡ pick (has_good_runs e body.now) (block_of e body.now) output.old }
 {
@@ -167,12 +158,12 @@ fn lay_down(e: Entry, body: &[u8], output: &mut [u64]) -> FileAnswer
     match kind {
         2 => {
             differences_out(e.width as usize, body, output);
-            FileAnswer::Done
+            Ok(())
         }
         3 => runs_out(((e.length - 2048) / 8) as usize, body, output),
         _ => {
             raised_out(e.width as usize, body, e.reference, output);
-            FileAnswer::Done
+            Ok(())
         }
     }
 }
@@ -196,7 +187,7 @@ fn runs_out(n: usize, body: &[u8], output: &mut [u64]) -> FileAnswer
     requires n_bound { n ≤ 1024 }
     requires body_len { length body.now ≡ 2048 + 8 * n }
     requires output_len { length output.old ≡ 1024 }
-    ensures value { result ≡ file_answer ((indexed n body.now, Runs 0) ∷ []) }
+    ensures value { result ≡ file_answer ((indexed n body.now, Err (Runs 0)) ∷ []) }
     ensures output_after { output.new
         ≡ pick (indexed n body.now)
         (decode_of (words_from body.now 2048 n) (run_indices body.now)) output.old }
@@ -211,7 +202,7 @@ fn runs_few(n: usize, body: &[u8], output: &mut [u64]) -> FileAnswer
     requires n_bound { n ≤ 64 }
     requires body_len { length body.now ≡ 2048 + 8 * n }
     requires output_len { length output.old ≡ 1024 }
-    ensures value { result ≡ file_answer ((indexed n body.now, Runs 0) ∷ []) }
+    ensures value { result ≡ file_answer ((indexed n body.now, Err (Runs 0)) ∷ []) }
     ensures output_after { output.new
         ≡ pick (indexed n body.now)
         (decode_of (words_from body.now 2048 n) (run_indices body.now)) output.old }
@@ -225,7 +216,7 @@ fn runs_many(n: usize, body: &[u8], output: &mut [u64]) -> FileAnswer
     requires n_bound { n ≤ 1024 }
     requires body_len { length body.now ≡ 2048 + 8 * n }
     requires output_len { length output.old ≡ 1024 }
-    ensures value { result ≡ file_answer ((indexed n body.now, Runs 0) ∷ []) }
+    ensures value { result ≡ file_answer ((indexed n body.now, Err (Runs 0)) ∷ []) }
     ensures output_after { output.new
         ≡ pick (indexed n body.now)
         (decode_of (words_from body.now 2048 n) (run_indices body.now)) output.old }
@@ -244,7 +235,7 @@ fn runs_through(
     requires body_len { length body.now ≡ 2048 + 8 * length values.old }
     requires indices_len { length indices.old ≡ 1024 }
     requires output_len { length output.old ≡ 1024 }
-    ensures value { result ≡ file_answer ((indexed (length values.old) body.now, Runs 0) ∷ []) }
+    ensures value { result ≡ file_answer ((indexed (length values.old) body.now, Err (Runs 0)) ∷ []) }
     ensures output_after { output.new
         ≡ pick (indexed (length values.old) body.now) (decode_of
         (words_from body.now 2048 (length values.old)) (run_indices body.now)) output.old }
@@ -256,10 +247,10 @@ fn runs_through(
 
 // What decode's answer says of the run indices: its lengths are right, so a refusal is of an index.
 fn runs_answer(answer: Answer) -> FileAnswer
-    ensures { result ≡ file_answer ((is_done answer, Runs 0) ∷ []) }
+    ensures { result ≡ file_answer ((is_done answer, Err (Runs 0)) ∷ []) }
 {
     if answer.number() == 0 {
-        return FileAnswer::Done;
+        return Ok(());
     }
-    FileAnswer::Runs(0)
+    Err(FileRefusal::Runs(0))
 }

@@ -9,10 +9,10 @@ ghost use Rattle.places.specs.Sizes.{t64, lanes};
 ghost use Rattle.deltas.specs.Deltas.{unfor_pack_of, undelta_pack_of};
 ghost use Rattle.bodies.specs.Bodies.{words_from, packed_from};
 
-use deltas::t64::{undelta_pack, unfor_pack};
+use deltas::{undelta_pack, unfor_pack};
 use little::read_words;
 use places::{next_start, row_start};
-use rows::t64::{load, mask, or_shl, shr, splat, store, wrapping_add};
+use rows::{load, mask, or_shl, shr, splat, store, wrapping_add};
 
 const T: usize = 64;
 
@@ -96,10 +96,8 @@ fn raised_split(width: usize, body: &[u8], reference: u64, values: &mut [u64])
     let lift = splat(reference);
     let mut s = 0;
     let mut at = 0;
-    let mut o = 0;
-    while o < T / 8 {
-        let mut i = 0;
-        while i < 8 {
+    for o in 0..T / 8 {
+        for i in 0..8 {
             let mut row = shr(row_of(body, at), s);
             s += width;
             if T <= s {
@@ -115,9 +113,7 @@ fn raised_split(width: usize, body: &[u8], reference: u64, values: &mut [u64])
                 row_start(o, i),
                 wrapping_add(mask(row, width), lift),
             );
-            i += 1;
         }
-        o += 1;
     }
 }
 
@@ -132,10 +128,8 @@ fn summed_split(width: usize, body: &[u8], base: &[u64], values: &mut [u64])
     let mut prev = load(base);
     let mut s = 0;
     let mut at = 0;
-    let mut o = 0;
-    while o < T / 8 {
-        let mut i = 0;
-        while i < 8 {
+    for o in 0..T / 8 {
+        for i in 0..8 {
             let mut row = shr(row_of(body, at), s);
             s += width;
             if T <= s {
@@ -149,9 +143,7 @@ fn summed_split(width: usize, body: &[u8], base: &[u64], values: &mut [u64])
             let next = wrapping_add(mask(row, width), prev);
             put_at(values, row_start(o, i), next);
             prev = next;
-            i += 1;
         }
-        o += 1;
     }
 }
 
@@ -163,11 +155,9 @@ fn raised_copy(body: &[u8], reference: u64, values: &mut [u64])
 {
     let lift = splat(reference);
     let mut start = 0;
-    let mut r = 0;
-    while r < T {
+    for r in 0..T {
         put_at(values, start, wrapping_add(row_of(body, 128 * r), lift));
-        r += 1;
-        start = next_start(start, r);
+        start = next_start(start, r + 1);
     }
 }
 
@@ -180,12 +170,10 @@ fn summed_copy(body: &[u8], base: &[u64], values: &mut [u64])
 {
     let mut prev = load(base);
     let mut start = 0;
-    let mut r = 0;
-    while r < T {
+    for r in 0..T {
         let next = wrapping_add(row_of(body, 128 * r), prev);
         put_at(values, start, next);
         prev = next;
-        r += 1;
-        start = next_start(start, r);
+        start = next_start(start, r + 1);
     }
 }

@@ -11,9 +11,9 @@ use lib.Dec.{leb}
 use lib.ListN.{length, take, length-take}
 use lib.Seq.{take_all, length-take-le}
 use borrow.Author.Tests.{le-leb}
+use Rattle.std.specs.Prelude.{Ok}
 use Rattle.lists.specs.Pick.{pick}
 use Rattle.little.proofs.Little.{little-within}
-use Rattle.contents.specs.declared.FileAnswer.TheVariants.{Done}
 use Rattle.contents.specs.Answers.{file_answer}
 use Rattle.contents.specs.Contents.{edition, count, edition_or, count_or, contents_size, entry_of, entry_or, range_of, range_or, has_right_entry, contents_tests}
 use Rattle.contents.proofs.Entries.{edition_there, right_there}
@@ -25,11 +25,11 @@ use Rattle.bodywise.proofs.Told.{whole, edition-read, count-read, entry_read, ra
 -- A front that tells of the contents what the file does.
 pub record Front (l front : List ℕ) : Type 0 where
   pub answer : file_answer (contents_tests front (length l)) ≡ file_answer (contents_tests l (length l))
-  pub edition-is : file_answer (contents_tests l (length l)) ≡ Done → edition_or front ≡ edition l
-  pub count-is : file_answer (contents_tests l (length l)) ≡ Done → count_or front ≡ count l
-  pub entry-is : file_answer (contents_tests l (length l)) ≡ Done → (i : ℕ) → i < count l → entry_or front i ≡ entry_of l i
-  pub range-is : file_answer (contents_tests l (length l)) ≡ Done → (i : ℕ) → i < count l → range_or front i ≡ range_of l i
-  pub right_is : file_answer (contents_tests l (length l)) ≡ Done → (i : ℕ) → i < count l → has_right_entry front i ≡ true
+  pub edition-is : file_answer (contents_tests l (length l)) ≡ Ok tt → edition_or front ≡ edition l
+  pub count-is : file_answer (contents_tests l (length l)) ≡ Ok tt → count_or front ≡ count l
+  pub entry-is : file_answer (contents_tests l (length l)) ≡ Ok tt → (i : ℕ) → i < count l → entry_or front i ≡ entry_of l i
+  pub range-is : file_answer (contents_tests l (length l)) ≡ Ok tt → (i : ℕ) → i < count l → range_or front i ≡ range_of l i
+  pub right_is : file_answer (contents_tests l (length l)) ≡ Ok tt → (i : ℕ) → i < count l → has_right_entry front i ≡ true
 
 -- The whole file is one.
 pub whole-front : (l : List ℕ) → Front l l

@@ -8,15 +8,15 @@ use Prim.Native.Nat.{ℕ, suc, ◌+◌, ◌≤◌, ◌<◌}
 use native.Mathlib.Numerals.{add-one}
 use native.Mathlib.Omega.{arith}
 use lib.ListN.{length}
+use Rattle.std.specs.Prelude.{Ok}
 use Rattle.little.proofs.Little.{little-within}
-use Rattle.contents.specs.declared.FileAnswer.TheVariants.{Done}
 use Rattle.contents.specs.Answers.{file_answer}
 use Rattle.contents.specs.Contents.{edition, count, edition_or, count_or, contents_size, entry_of, entry_or, range_of, range_or, is_laid_out, bodies_size, body_start, contents_tests}
 use Rattle.contents.proofs.Accepted.{Whole, whole_laid, accepted}
 use Rattle.contents.proofs.Entries.{edition_there, entry_there, range_there, bodies-within}
 use Rattle.contents.proofs.Sizes.{size-before}
 
-module _ (l : List ℕ) (done : file_answer (contents_tests l (length l)) ≡ Done) where
+module _ (l : List ℕ) (done : file_answer (contents_tests l (length l)) ≡ Ok tt) where
   pub whole : Whole l (length l)
   whole = accepted l (length l) done
 

@@ -10,7 +10,7 @@ use native.Mathlib.Numerals.{add-one}
 use native.Mathlib.Omega.{arith}
 use lib.ListN.{length}
 use borrow.Author.Count.{below_more}
-use Rattle.contents.specs.declared.FileAnswer.TheVariants.{Done}
+use Rattle.std.specs.Prelude.{Ok}
 use Rattle.contents.specs.Answers.{file_answer}
 use Rattle.contents.specs.Contents.{count, contents_size, entry_of, body_start, contents_tests}
 use Rattle.bodywise.specs.declared.Body.{Body}
@@ -24,7 +24,7 @@ pub record Walking (l : List ℕ) (b : Body) : Type 0 where
   pub start : b.at ≡ body_start l b.number
   pub entry : b.number < count l → b.entry ≡ entry_of l b.number
 
-module _ (l front : List ℕ) (held : Front l front) (done : file_answer (contents_tests l (length l)) ≡ Done) where
+module _ (l front : List ℕ) (held : Front l front) (done : file_answer (contents_tests l (length l)) ≡ Ok tt) where
   pub first_walking : Walking l (first_body front)
   unfolding first_body
   first_walking = record {
@@ -72,7 +72,7 @@ module _ (l front : List ℕ) (held : Front l front) (done : file_answer (conten
         )
 
 -- The whole file is its own front: the same for whoever holds it, of the body that a call gave.
-module _ (l : List ℕ) (done : file_answer (contents_tests l (length l)) ≡ Done) where
+module _ (l : List ℕ) (done : file_answer (contents_tests l (length l)) ≡ Ok tt) where
   module _ {b : Body} (begun : b ≡ first_body l) where
     pub file-first : Walking l b
     file-first = subst (Walking l) (sym begun) (first_walking l l (whole-front l) done)

@@ -6,23 +6,22 @@
 --
 -- `front` is the front of the file, which has the contents.
 -- Assumes nothing.
-use Rattle.std.specs.Prelude.{Bool, true, List, [], ◌∷◌, ◌++◌, ℕ, zero, suc, eqb, leb, length, take}
+use Rattle.std.specs.Prelude.{Bool, true, List, [], ◌∷◌, ◌++◌, ℕ, zero, suc, eqb, leb, length, take, Err}
 use Rattle.lists.specs.Tests.{long}
 use Rattle.lists.specs.Pick.{pick}
-use Rattle.contents.specs.declared.FileAnswer.TheVariants.{BadEntry, Block, Cut, Over, Range, Runs}
-use Rattle.contents.specs.declared.FileAnswer.{FileAnswer}
-use Rattle.contents.specs.Answers.{FileTest, file_answer, is_done, left}
+use Rattle.contents.specs.declared.FileRefusal.TheVariants.{BadEntry, Block, Cut, Over, Range, Runs}
+use Rattle.contents.specs.Answers.{FileAnswer, FileTest, file_answer, is_done, left}
 use Rattle.contents.specs.Contents.{edition_or, count_or, contents_size, entry_or, range_or, has_right_entry, contents_tests}
 use Rattle.bodies.specs.Bodies.{block_of, has_good_runs}
 use Rattle.bodies.specs.Ranges.{is_range}
 
 -- Entry i has to be there and right in its edition: 10 with the entry where it is not.
 abbrev pub entry_test : (front : List ℕ) (i : ℕ) → FileTest
-entry_test front i = (has_right_entry front i, BadEntry i)
+entry_test front i = (has_right_entry front i, Err (BadEntry i))
 
 -- The run indices of body i have to be in range: 13 with the block where one is not.
 abbrev pub runs_test : (front : List ℕ) (i : ℕ) (body : List ℕ) → FileTest
-runs_test front i body = (has_good_runs (entry_or front i) body, Runs i)
+runs_test front i body = (has_good_runs (entry_or front i) body, Err (Runs i))
 
 -- In edition 2 the range that entry i says has to be the true one of its block; in edition 1 it says none.
 unfoldable pub has_true_range : (front : List ℕ) (i : ℕ) (block : List ℕ) → Bool
@@ -30,21 +29,21 @@ has_true_range front i block = pick (eqb (edition_or front) 2) (is_range (range_
 
 -- Where it is not, 15 is given with the block.
 abbrev pub range_test : (front : List ℕ) (i : ℕ) (block : List ℕ) → FileTest
-range_test front i block = (has_true_range front i block, Range i)
+range_test front i block = (has_true_range front i block, Err (Range i))
 
 -- The tests of body i are, in this order, that of its entry, whether the body is as long as the entry says, and that of
 -- the run indices.
 abbrev pub body_tests : (front : List ℕ) (i : ℕ) (body : List ℕ) → List FileTest
 body_tests front i body =
     entry_test front i
-    ∷ (leb (entry_or front i).length (length body), Cut)
-    ∷ (leb (length body) (entry_or front i).length, Over)
+    ∷ (leb (entry_or front i).length (length body), Err Cut)
+    ∷ (leb (length body) (entry_or front i).length, Err Over)
     ∷ runs_test front i body
     ∷ []
 
 -- Laying block i down tests its output first,
 abbrev pub held_tests : (front : List ℕ) (i : ℕ) (body block : List ℕ) → List FileTest
-held_tests front i body block = (long 1024 block, Block) ∷ body_tests front i body
+held_tests front i body block = (long 1024 block, Err Block) ∷ body_tests front i body
 
 -- and leaves this there.
 unfoldable pub held_leaves : (front : List ℕ) (i : ℕ) (body block : List ℕ) → List ℕ

@@ -3,9 +3,8 @@
 // the file body by body. The front is the first bytes of the file, with the contents; the whole file is its own front.
 #![tactic(auto)]
 
-ghost use Rattle.std.specs.Prelude.{◌≡◌, [], ◌∷◌, ◌+◌, ◌*◌, min};
+ghost use Rattle.std.specs.Prelude.{◌≡◌, [], ◌∷◌, ◌+◌, ◌*◌, min, Ok};
 ghost use Rattle.places.specs.Sizes.{largest_u64};
-ghost use Rattle.contents.specs.declared.FileAnswer.TheVariants.{Done};
 ghost use Rattle.contents.specs.Answers.{file_answer};
 ghost use Rattle.contents.specs.Contents.{count_or, entry_or};
 ghost use Rattle.bodies.specs.Bodies.{block_of};
@@ -13,7 +12,9 @@ ghost use Rattle.bodywise.specs.Cursor.{body_at, first_body, next_body};
 ghost use Rattle.bodywise.specs.InnerPlaced.{in_block};
 ghost use Rattle.bodywise.specs.Steps.{entry_test, body_tests, held_tests, held_leaves, range_tests, step_of, front_size};
 
-use contents::{Entry, FileAnswer, contents_length, edition, entry_or, has_right_entry, range_or};
+use contents::{
+    Entry, FileAnswer, FileRefusal, contents_length, edition, entry_or, has_right_entry, range_or,
+};
 use little::pair;
 
 // A body of a file: its number, where it begins, and its entry.
@@ -81,13 +82,8 @@ pub fn front_length(head: &[u8]) -> usize
 pub fn step(answer: FileAnswer, front: &[u8], i: usize, body: &[u8]) -> FileAnswer
     ensures { result ≡ step_of answer front.now i body.now }
 {
-    if answer.number() != 0 {
-        return answer;
-    }
-    let found = check_body(front, i, body);
-    if found.number() != 0 {
-        return found;
-    }
+    answer?;
+    check_body(front, i, body)?;
     check_range(front, i, body)
 }
 
@@ -96,9 +92,9 @@ fn check_entry(front: &[u8], i: usize) -> FileAnswer
     ensures { result ≡ file_answer (entry_test front.now i ∷ []) }
 {
     if has_right_entry(front, i) {
-        return FileAnswer::Done;
+        return Ok(());
     }
-    FileAnswer::BadEntry(i)
+    Err(FileRefusal::BadEntry(i))
 }
 
 // Body i against its entry, which has to be right in its edition. Nothing is laid down, so the range of its block is not
@@ -106,24 +102,21 @@ fn check_entry(front: &[u8], i: usize) -> FileAnswer
 pub fn check_body(front: &[u8], i: usize, body: &[u8]) -> FileAnswer
     ensures { result ≡ file_answer (body_tests front.now i body.now) }
 {
-    let entry = check_entry(front, i);
-    if entry.number() != 0 {
-        return entry;
-    }
+    check_entry(front, i)?;
     in_block(i, bodies::check(entry_or(front, i), body))
 }
 
 // The range of block i, whose body is as its entry says.
 fn check_range(front: &[u8], i: usize, body: &[u8]) -> FileAnswer
-    requires { file_answer (body_tests front.now i body.now) ≡ Done }
+    requires { file_answer (body_tests front.now i body.now) ≡ Ok tt }
     ensures { result
         ≡ file_answer (range_tests front.now i (block_of (entry_or front.now i) body.now)) }
 {
     if edition(front) != 2 {
-        return FileAnswer::Done;
+        return Ok(());
     }
     let mut block = [0u64; 1024];
-    bodies::block_of(entry_or(front, i), body, &mut block);
+    let _ = bodies::block_of(entry_or(front, i), body, &mut block);
     check_block(front, i, &block)
 }
 
@@ -131,10 +124,10 @@ fn check_range(front: &[u8], i: usize, body: &[u8]) -> FileAnswer
 fn in_block(i: usize, answer: FileAnswer) -> FileAnswer
     ensures { result ≡ in_block i answer }
 {
-    if answer.number() == 13 {
-        return FileAnswer::Runs(i);
+    match answer {
+        Err(FileRefusal::Runs(_)) => Err(FileRefusal::Runs(i)),
+        _ => answer,
     }
-    answer
 }
 
 // Lays block i down from its body. The entry has to be right in its edition.
@@ -143,12 +136,9 @@ pub fn held_block(front: &[u8], i: usize, body: &[u8], block: &mut [u64]) -> Fil
     ensures block_after { block.new ≡ held_leaves front.now i body.now block.old }
 {
     if block.len() != 1024 {
-        return FileAnswer::Block;
+        return Err(FileRefusal::Block);
     }
-    let entry = check_entry(front, i);
-    if entry.number() != 0 {
-        return entry;
-    }
+    check_entry(front, i)?;
     in_block(i, bodies::block_of(entry_or(front, i), body, block))
 }
 
@@ -156,17 +146,14 @@ pub fn held_block(front: &[u8], i: usize, body: &[u8], block: &mut [u64]) -> Fil
 pub fn check_block(front: &[u8], i: usize, block: &[u64]) -> FileAnswer
     ensures { result ≡ file_answer (range_tests front.now i block.now) }
 {
-    let entry = check_entry(front, i);
-    if entry.number() != 0 {
-        return entry;
-    }
+    check_entry(front, i)?;
     if edition(front) != 2 {
-        return FileAnswer::Done;
+        return Ok(());
     }
     if bodies::is_range(range_or(front, i), block) {
-        return FileAnswer::Done;
+        return Ok(());
     }
-    FileAnswer::Range(i)
+    Err(FileRefusal::Range(i))
 }
 
 // How many rows a file has, by its contents.

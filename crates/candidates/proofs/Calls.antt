@@ -1,5 +1,6 @@
 -- The laws behind the calls on one block: what is measured, and what is answered and left by the tests.
 -- Assumes nothing.
+use Rattle.std.specs.Prelude.{Ok, Err}
 use Rattle.std.proofs.Common.{◌≡◌, ℕ, ◌+◌, ◌-◌, ◌*◌, ◌^◌, ◌<◌, ◌≤◌, Bool, true, false, eqb, leb, List, [], ◌∷◌, length, take, sym, refl, ap, ◌∙◌, ap₂, arith, length-append, pow_pos, eq-eqb, ne_eqb, eqb-true, le-leb, leb-true}
 use borrow.Author.Tests.{lt-leb}
 use Rattle.lists.specs.Numbers.{Elements, minus}
@@ -16,16 +17,15 @@ use Rattle.packing.specs.Packed.{pack_of}
 use Rattle.packing.proofs.Rounds.{length-pack}
 use Rattle.little.specs.Little.{write_leaves, all_bytes}
 use Rattle.little.proofs.Bytes.{write_all, length_all}
-use Rattle.contents.specs.declared.FileAnswer.{FileAnswer}
-use Rattle.contents.specs.declared.FileAnswer.TheVariants.{Done, Block, Room}
+use Rattle.contents.specs.declared.FileRefusal.{FileRefusal}
+use Rattle.contents.specs.declared.FileRefusal.TheVariants.{Block, Room}
 use Rattle.contents.specs.declared.Range.{Range}
-use Rattle.contents.specs.Answers.{file_answer, number_of, is_done, left}
+use Rattle.contents.specs.Answers.{FileAnswer, file_answer, left, giving}
 use Rattle.contents.specs.Contents.{no_entry, any_range}
 use Rattle.contents.proofs.Answers.{passed, stopped, none_left}
-use Rattle.candidates.specs.declared.Laid.TheVariants.{As, Refused}
 use Rattle.candidates.specs.declared.Measured.{Measured}
 use Rattle.candidates.specs.declared.Measures.{Measures}
-use Rattle.candidates.specs.Calls.{entry_for, lay_tests, laid_of, lay_leaves, measured_of, entry_with, is_ready, by_tests, plain_leaves, frame_leaves, steps_leaves, by_leaves}
+use Rattle.candidates.specs.Calls.{entry_for, lay_tests, said_of, laid_of, lay_leaves, measured_of, entry_with, is_ready, by_tests, plain_leaves, frame_leaves, steps_leaves, by_leaves}
 use Rattle.candidates.specs.Candidates.{base_of, differences, chosen, body_for}
 use Rattle.candidates.specs.Measures.{measures_of, widths_by, entry_by, shorter_part, plain_by, frame_by, steps_by, words_by}
 use Rattle.bodies.specs.Ranges.{true_range}
@@ -103,30 +103,30 @@ module _ (values : List ℕ) where
 module _ (values output : List ℕ) where
   -- An answer decides what is given and left.
   laid_by : (a : FileAnswer) → file_answer (lay_tests values output) ≡ a
-      → (laid_of values output ≡ pick (is_done a) (As (chosen values).entry (true_range values)) (Refused a)) × (lay_leaves values output ≡ left a (over 0 (body_for values) output) output)
+      → (laid_of values output ≡ giving a (said_of values)) × (lay_leaves values output ≡ left a (over 0 (body_for values) output) output)
   unfolding laid_of lay_leaves
   laid_by a e = (
-    ap (λ x. pick (is_done x) (As (chosen values).entry (true_range values)) (Refused x)) e,
+    ap (λ x. giving x (said_of values)) e,
     ap (λ x. left x (over 0 (body_for values) output) output) e,
   )
 
-  pub bad_values : (length values ≡ 1024 → ⊥) → (Refused Block ≡ laid_of values output) × (output ≡ lay_leaves values output)
+  pub bad_values : (length values ≡ 1024 → ⊥) → (Err Block ≡ laid_of values output) × (output ≡ lay_leaves values output)
   bad_values bad =
-      let l = laid_by Block (stopped _ _ (ne_eqb (length values) 1024 bad)) in
+      let l = laid_by (Err Block) (stopped _ _ (ne_eqb (length values) 1024 bad)) in
       (sym l.0, sym l.1)
 
   module _ (long : length values ≡ 1024) where
-    pub no_room : length output < (chosen values).entry.length → (Refused Room ≡ laid_of values output) × (output ≡ lay_leaves values output)
+    pub no_room : length output < (chosen values).entry.length → (Err Room ≡ laid_of values output) × (output ≡ lay_leaves values output)
     no_room h =
-        let l = laid_by Room
+        let l = laid_by (Err Room)
         (passed _ _ (eq-eqb (length values) 1024 long) ∙ stopped _ _ (lt-leb (length (body_for values)) (length output) (omega (arith, body_sized values)))) in
         (sym l.0, sym l.1)
 
     pub laid_there : (chosen values).entry.length ≤ length output
-        → (laid_of values output ≡ As (chosen values).entry (true_range values)) × (lay_leaves values output ≡ over 0 (body_for values) output)
+        → (laid_of values output ≡ Ok (said_of values)) × (lay_leaves values output ≡ over 0 (body_for values) output)
     laid_there h =
         let room : length (body_for values) ≤ length output = omega (arith, body_sized values) in
-        laid_by Done (passed _ _ (eq-eqb (length values) 1024 long) ∙ passed _ _ (le-leb (length (body_for values)) (length output) room) ∙ none_left)
+        laid_by (Ok tt) (passed _ _ (eq-eqb (length values) 1024 long) ∙ passed _ _ (le-leb (length (body_for values)) (length output) room) ∙ none_left)
 
 -- The entry by a range and a width, by whether that is one.
 module _ (range : Range) (steps : ℕ) where
@@ -145,31 +145,31 @@ module _ (range : Range) (steps : ℕ) (values : List ℕ) where
   abbrev Refuses : FileAnswer → Type 0
   Refuses a = (plain frame rest output : List ℕ) → (plain ≡ plain_leaves a range steps values plain) × ((frame ≡ frame_leaves a range steps values frame) × ((rest ≡ steps_leaves a range steps values rest) × (output ≡ by_leaves a range steps values output)))
 
-  pub block_refuses : Refuses Block
+  pub block_refuses : Refuses (Err Block)
   unfolding plain_leaves frame_leaves steps_leaves by_leaves
   block_refuses plain frame rest output = (refl, (refl, (refl, refl)))
 
-  pub room-refuses : Refuses Room
+  pub room-refuses : Refuses (Err Room)
   unfolding plain_leaves frame_leaves steps_leaves by_leaves
   room-refuses plain frame rest output = (refl, (refl, (refl, refl)))
 
   module _ (plain frame rest output : List ℕ) where
-    pub by_bad_values : (length values ≡ 1024 → ⊥) → Block ≡ file_answer (by_tests range steps values plain frame rest output)
+    pub by_bad_values : (length values ≡ 1024 → ⊥) → Err Block ≡ file_answer (by_tests range steps values plain frame rest output)
     by_bad_values bad = sym (stopped _ _ (ne_eqb (length values) 1024 bad))
 
     module _ (long : length values ≡ 1024) where
-      pub by_bad_rooms : is_ready steps plain frame rest ≡ false → Room ≡ file_answer (by_tests range steps values plain frame rest output)
+      pub by_bad_rooms : is_ready steps plain frame rest ≡ false → Err Room ≡ file_answer (by_tests range steps values plain frame rest output)
       by_bad_rooms bad = sym (passed _ _ (eq-eqb (length values) 1024 long) ∙ stopped _ _ bad)
 
       module _ (ready : is_ready steps plain frame rest ≡ true) where
-        pub by_no-room : length output < (entry_by (widths_by range steps)).length → Room ≡ file_answer (by_tests range steps values plain frame rest output)
+        pub by_no-room : length output < (entry_by (widths_by range steps)).length → Err Room ≡ file_answer (by_tests range steps values plain frame rest output)
         by_no-room h =
             sym
             (passed _ _ (eq-eqb (length values) 1024 long)
             ∙ passed _ _ ready
             ∙ stopped _ _ (lt-leb (8 * length (words_by (widths_by range steps) values)) (length output) (omega (arith, sized_by (widths_by range steps) values))))
 
-        pub by_done : (entry_by (widths_by range steps)).length ≤ length output → Done ≡ file_answer (by_tests range steps values plain frame rest output)
+        pub by_done : (entry_by (widths_by range steps)).length ≤ length output → Ok tt ≡ file_answer (by_tests range steps values plain frame rest output)
         by_done h =
             sym
             (passed _ _ (eq-eqb (length values) 1024 long)
@@ -192,7 +192,7 @@ module _ (range : Range) (steps : ℕ) (values : List ℕ) where
       → z ≡ over 0 (steps_by (widths_by range steps) values) rest
       → o ≡ write_leaves 8 (words_by (widths_by range steps) values) output
       → (entry_by (widths_by range steps)).length ≤ length output
-      → (x ≡ plain_leaves Done range steps values plain) × ((y ≡ frame_leaves Done range steps values frame) × ((z ≡ steps_leaves Done range steps values rest) × (o ≡ by_leaves Done range steps values output)))
+      → (x ≡ plain_leaves (Ok tt) range steps values plain) × ((y ≡ frame_leaves (Ok tt) range steps values frame) × ((z ≡ steps_leaves (Ok tt) range steps values rest) × (o ≡ by_leaves (Ok tt) range steps values output)))
   unfolding plain_leaves frame_leaves steps_leaves by_leaves
   leaves-done plain frame rest output x y z o ex ey ez eo room =
       let m = widths_by range steps in
@@ -218,7 +218,7 @@ module _ (values : List ℕ) (long : length values ≡ 1024) (fits : Elements t6
       ap₂ both (ap₂ both (eq-eqb (length plain) 1024 lp) (eq-eqb (length frame) 1024 lf)) (ap₂ both (eq-eqb (length rest) 1040 lr) (le-leb wide 64 (width-most (differences values)))) in
       passed _ _ (eq-eqb (length values) 1024 long)
       ∙ passed _ _ ready
-      ∙ ap (λ n. file_answer ((leb n (length output), Room) ∷ [])) (ap (λ x. 8 * length x) true-words ∙ sym (length_all 8 (chosen values).words))
+      ∙ ap (λ n. file_answer ((leb n (length output), Err Room) ∷ [])) (ap (λ x. 8 * length x) true-words ∙ sym (length_all 8 (chosen values).words))
       ∙ sym (passed _ _ (eq-eqb (length values) 1024 long))
 
   pub true-leaves : (a : FileAnswer) (output : List ℕ) → by_leaves a (true_range values) wide values output ≡ left a (over 0 (body_for values) output) output
@@ -226,13 +226,11 @@ module _ (values : List ℕ) (long : length values ≡ 1024) (fits : Elements t6
   true-leaves a output = ap (λ x. left a (over 0 (all_bytes 8 x) output) output) true-words
 
   -- So a block that is laid down by what is measured of it is answered and left as one that is laid down at once.
-  pub laid_refused : (a : FileAnswer) (output : List ℕ) → a ≡ file_answer (lay_tests values output) → (number_of a ≡ 0 → ⊥) → Refused a ≡ laid_of values output
-  laid_refused a output e bad =
-      sym ((laid_by values output a (sym e)).0 ∙ ap (λ t. pick t (As (chosen values).entry (true_range values)) (Refused a)) (ne_eqb (number_of a) 0 bad))
+  pub laid_refused : (r : FileRefusal) (output : List ℕ) → Err r ≡ file_answer (lay_tests values output) → Err r ≡ laid_of values output
+  laid_refused r output e = sym (laid_by values output (Err r) (sym e)).0
 
-  pub laid_done : (a : FileAnswer) (output : List ℕ) → a ≡ file_answer (lay_tests values output) → number_of a ≡ 0 → As (chosen values).entry (true_range values) ≡ laid_of values output
-  laid_done a output e done =
-      sym ((laid_by values output a (sym e)).0 ∙ ap (λ t. pick t (As (chosen values).entry (true_range values)) (Refused a)) (eq-eqb (number_of a) 0 done))
+  pub laid_done : (output : List ℕ) → Ok tt ≡ file_answer (lay_tests values output) → Ok (said_of values) ≡ laid_of values output
+  laid_done output e = sym (laid_by values output (Ok tt) (sym e)).0
 
   pub laid_left : (a : FileAnswer) (output : List ℕ) → a ≡ file_answer (lay_tests values output) → left a (over 0 (body_for values) output) output ≡ lay_leaves values output
   laid_left a output e = sym (laid_by values output a (sym e)).1

@@ -1,19 +1,18 @@
 -- What the calls on one block answer and leave (R106): the entry that the writer gives a block, its smallest and
 -- largest number, and the body written; in one call, or measured first and laid down later.
 -- Assumes nothing.
-use Rattle.std.specs.Prelude.{ℕ, ◌*◌, Bool, List, [], ◌∷◌, length, nat_le}
+use Rattle.std.specs.Prelude.{ℕ, ◌*◌, Bool, List, [], ◌∷◌, length, nat_le, Result, Err}
 use Rattle.lists.specs.Pick.{pick, both}
 use Rattle.lists.specs.Tab.{over}
 use Rattle.lists.specs.Tests.{long}
 use Rattle.contents.specs.declared.Entry.{Entry}
-use Rattle.contents.specs.declared.FileAnswer.{FileAnswer}
-use Rattle.contents.specs.declared.FileAnswer.TheVariants.{Done, Block, Room}
+use Rattle.contents.specs.declared.FileRefusal.{FileRefusal}
+use Rattle.contents.specs.declared.FileRefusal.TheVariants.{Block, Room}
 use Rattle.contents.specs.declared.Range.{Range}
-use Rattle.contents.specs.Answers.{FileTest, file_answer, is_done, left}
+use Rattle.contents.specs.Answers.{FileAnswer, FileTest, file_answer, left, giving}
 use Rattle.contents.specs.Contents.{no_entry, any_range}
 use Rattle.bodies.specs.Ranges.{true_range}
 use Rattle.candidates.specs.declared.Laid.{Laid}
-use Rattle.candidates.specs.declared.Laid.TheVariants.{As, Refused}
 use Rattle.candidates.specs.declared.Measured.{Measured}
 use Rattle.little.specs.Little.{all_bytes}
 use Rattle.candidates.specs.Candidates.{chosen, body_for, differences}
@@ -26,31 +25,19 @@ entry_for values = pick (long 1024 values) (chosen values).entry no_entry
 
 -- Writing the body of a block takes 1,024 numbers, and an output with room for the body.
 abbrev pub lay_tests : (values output : List ℕ) → List FileTest
-lay_tests values output = (long 1024 values, Block) ∷ (nat_le (length (body_for values)) (length output), Room) ∷ []
+lay_tests values output = (long 1024 values, Err Block) ∷ (nat_le (length (body_for values)) (length output), Err Room) ∷ []
 
--- It gives the block's entry and its range, or the refusal,
-unfoldable pub laid_of : (values output : List ℕ) → Laid
-laid_of values output =
-    pick (is_done (file_answer (lay_tests values output))) (As (chosen values).entry (true_range values)) (Refused (file_answer (lay_tests values output)))
+-- This is said of a block that is laid down: its entry and its range.
+abbrev pub said_of : (values : List ℕ) → Laid
+said_of values = record { entry = (chosen values).entry; range = true_range values }
+
+-- The call gives this, or the refusal,
+unfoldable pub laid_of : (values output : List ℕ) → Result Laid FileRefusal
+laid_of values output = giving (file_answer (lay_tests values output)) (said_of values)
 
 -- and leaves the body at the front of the output; the bytes behind it stay.
 unfoldable pub lay_leaves : (values output : List ℕ) → List ℕ
 lay_leaves values output = left (file_answer (lay_tests values output)) (over 0 (body_for values) output) output
-
--- An entry stands for an answer that is done, and a refusal for itself.
-abbrev pub answer_of : Laid → FileAnswer
-answer_of (As e r) = Done
-answer_of (Refused a) = a
-
--- After a refusal there is no entry.
-abbrev pub entry_laid : Laid → Entry
-entry_laid (As e r) = e
-entry_laid (Refused a) = no_entry
-
--- There is no range either, and from 0 to the highest number stands for it.
-abbrev pub range_laid : Laid → Range
-range_laid (As e r) = r
-range_laid (Refused a) = any_range
 
 -- ---- measured first, and laid down later
 
@@ -76,9 +63,9 @@ is_ready steps plain frame rest = both (both (long 1024 plain) (long 1024 frame)
 -- test, and an output with room for the shortest body.
 abbrev pub by_tests : (range : Range) (steps : ℕ) (values plain frame rest output : List ℕ) → List FileTest
 by_tests range steps values plain frame rest output =
-    (long 1024 values, Block)
-    ∷ (is_ready steps plain frame rest, Room)
-    ∷ (nat_le (8 * length (words_by (widths_by range steps) values)) (length output), Room)
+    (long 1024 values, Err Block)
+    ∷ (is_ready steps plain frame rest, Err Room)
+    ∷ (nat_le (8 * length (words_by (widths_by range steps) values)) (length output), Err Room)
     ∷ []
 
 -- It leaves each of the three bodies at the front of its room,

@@ -9,7 +9,7 @@ ghost use Rattle.candidates.specs.Candidates.{differences as differences_of};
 ghost use Rattle.candidates.specs.Widths.{bits, width_of};
 
 use places::{next_start, row_start};
-use rows::t64::{load, mask, or_shl, shr, splat, store, wrapping_sub};
+use rows::{load, mask, or_shl, shr, splat, store, wrapping_sub};
 use std::num::wrapping_sub_u64;
 
 const T: usize = 64;
@@ -24,15 +24,11 @@ pub fn step_bits(values: &[u64]) -> u64
     ensures { bits result ≡ width_of (differences_of values.now) }
 {
     let mut any: u64 = 0;
-    let mut p = 0;
-    while p < 896 {
+    for p in 0..896 {
         any = any | wrapping_sub_u64(values[p + 128], values[p]);
-        p += 1;
     }
-    let mut o = 0;
-    while o < 7 {
+    for o in 0..7 {
         any = any | crossing_bits(values, row_start(o, 7), row_start(o + 1, 0));
-        o += 1;
     }
     any
 }
@@ -46,10 +42,8 @@ fn crossing_bits(values: &[u64], from: usize, to: usize) -> u64
         (tab 16 (λ l. minus t64 (slice_index values.now (to + l)) (slice_index values.now (from + l)))) }
 {
     let mut any: u64 = 0;
-    let mut l = 0;
-    while l < LANES {
+    for l in 0..LANES {
         any = any | wrapping_sub_u64(values[to + l], values[from + l]);
-        l += 1;
     }
     any
 }
@@ -132,16 +126,14 @@ fn steps_copy(values: &[u64], packed: &mut [u64])
 {
     let mut before = 0;
     let mut start = 0;
-    let mut r = 0;
-    while r < T {
+    for r in 0..T {
         put_at(
             packed,
             LANES * r,
             wrapping_sub(row_at(values, start), row_at(values, before)),
         );
-        r += 1;
         before = start;
-        start = next_start(start, r);
+        start = next_start(start, r + 1);
     }
 }
 

@@ -17,59 +17,27 @@ ghost use Rattle.packing.specs.Packed.{pack_of};
 ghost use Rattle.deltas.specs.Deltas.{for_pack_of};
 ghost use Rattle.little.specs.Little.{write_leaves};
 ghost use Rattle.contents.specs.Answers.{file_answer};
-ghost use Rattle.candidates.specs.Calls.{entry_for, laid_of, lay_leaves, answer_of, entry_laid, range_laid, measured_of, entry_with, is_ready, by_tests, plain_leaves, frame_leaves, steps_leaves, by_leaves};
+ghost use Rattle.candidates.specs.Calls.{entry_for, laid_of, lay_leaves, measured_of, entry_with, is_ready, by_tests, plain_leaves, frame_leaves, steps_leaves, by_leaves};
 ghost use Rattle.candidates.specs.Candidates.{packed_entry, base_of, differences as differences_of};
 ghost use Rattle.candidates.specs.Measures.{widths_by, entry_by, shorter_entry, shorter_part};
 ghost use Rattle.candidates.specs.Widths.{bits};
 
 use bodies::range_of;
-use contents::{Entry, FileAnswer, Range, any_range, no_entry};
-use deltas::t64::for_pack;
+use contents::{Entry, FileAnswer, FileRefusal, Range, any_range, no_entry};
+use deltas::for_pack;
 use differences::{pack_steps, step_bits};
 use little::write_words;
-use packing::t64::pack;
-use rows::t64::{load, store};
+use packing::pack;
+use rows::{load, store};
 use std::num::wrapping_sub_u64;
 
 const T: usize = 64;
 
-// The entry of a block that was laid down, with its smallest and its largest number, or the refusal.
+// What is said of a block that was laid down: its entry, and its smallest and its largest number.
 #[derive(Clone, Copy)]
-pub enum Laid {
-    As(Entry, Range),
-    Refused(FileAnswer),
-}
-
-impl Laid {
-    // The answer in the terms of the other calls.
-    pub fn answer(self) -> FileAnswer
-        ensures { result ≡ answer_of self }
-    {
-        match self {
-            Laid::As(_, _) => FileAnswer::Done,
-            Laid::Refused(a) => a,
-        }
-    }
-
-    // The entry; after a refusal one of no kind.
-    pub fn entry(self) -> Entry
-        ensures { result ≡ entry_laid self }
-    {
-        match self {
-            Laid::As(e, _) => e,
-            Laid::Refused(_) => no_entry(),
-        }
-    }
-
-    // The smallest and the largest number; after a refusal every number is between them.
-    pub fn range(self) -> Range
-        ensures { result ≡ range_laid self }
-    {
-        match self {
-            Laid::As(_, r) => r,
-            Laid::Refused(_) => any_range(),
-        }
-    }
+pub struct Laid {
+    pub entry: Entry,
+    pub range: Range,
 }
 
 // What is measured of a block: the entry of the candidate that is chosen, the smallest and the largest number, and the
@@ -99,12 +67,12 @@ pub fn entry_for(values: &[u64]) -> Entry
 }
 
 // Lays the body of the chosen candidate down at the front of the output, and gives its entry and the block's range.
-pub fn lay_block(values: &[u64], output: &mut [u8]) -> Laid
+pub fn lay_block(values: &[u64], output: &mut [u8]) -> Result<Laid, FileRefusal>
     ensures value { result ≡ laid_of values.now output.old }
     ensures output_after { output.new ≡ lay_leaves values.now output.old }
 {
     if values.len() != 1024 {
-        return Laid::Refused(FileAnswer::Block);
+        return Err(FileRefusal::Block);
     }
     let m = measure(values);
     let entry = m.entry;
@@ -112,13 +80,10 @@ pub fn lay_block(values: &[u64], output: &mut [u8]) -> Laid
     let mut plain = [0u64; 1024];
     let mut frame = [0u64; 1024];
     let mut rest = [0u64; 1040];
-    let answer = lay_by(
+    lay_by(
         range, m.steps, values, &mut plain, &mut frame, &mut rest, output,
-    );
-    if answer.number() != 0 {
-        return Laid::Refused(answer);
-    }
-    Laid::As(entry, range)
+    )?;
+    Ok(Laid { entry, range })
 }
 
 // Measures a block; where there are not 1,024 numbers the entry is one of no kind.
@@ -176,21 +141,21 @@ pub fn lay_by(
     ensures output_after { output.new ≡ by_leaves result range steps values.now output.old }
 {
     if values.len() != 1024 {
-        return FileAnswer::Block;
+        return Err(FileRefusal::Block);
     }
     if !is_ready(steps, plain, frame, rest) {
-        return FileAnswer::Room;
+        return Err(FileRefusal::Room);
     }
     let m = widths_by(range, steps);
     let e = entry_by(m);
     if output.len() < e.length as usize {
-        return FileAnswer::Room;
+        return Err(FileRefusal::Room);
     }
     fill_plain(m.plain, values, plain);
     fill_frame(m.frame, values, m.low, frame);
     fill_steps(m.steps, values, rest);
     write_shortest(m, plain, frame, rest, output);
-    FileAnswer::Done
+    Ok(())
 }
 
 // Whether the rooms are those for the longest bodies, and the width is one.

@@ -7,6 +7,7 @@ use Prim.Native.Nat.{ℕ, ◌+◌, ◌*◌, ◌/◌, ◌^◌, ◌≤◌, ◌<◌
 use native.Mathlib.Omega.{arith}
 use lib.ListN.{length, get_or, take, drop, length-append, take-append-drop}
 use lib.Seq.{ext_get_or, length-take-le}
+use Rattle.std.specs.Prelude.{Ok}
 use Rattle.lists.specs.Ends.{lowest_of}
 use Rattle.lists.specs.Numbers.{Elements, plus, minus}
 use Rattle.lists.specs.Tab.{tab}
@@ -25,7 +26,6 @@ use Rattle.deltas.specs.Deltas.{delta_of, undelta_pack_of, frame_of, for_pack_of
 use Rattle.deltas.proofs.Lanes.{minus_plus, elements-unpack, length_for_pack}
 use Rattle.deltas.proofs.Restores.{delta-undelta, undelta-pack-is, unfor_pack-is}
 use Rattle.contents.specs.declared.Entry.{Entry}
-use Rattle.contents.specs.declared.FileAnswer.TheVariants.{Done}
 use Rattle.contents.specs.Answers.{file_answer}
 use Rattle.contents.specs.Contents.{count, entry_of, body_start, contents_tests}
 use Rattle.bodies.specs.Bodies.{words_from, packed_from, block_of}
@@ -175,7 +175,7 @@ module _ (e : Entry) (body : List ℕ) (bytes : Elements 8 body) (long : length 
           ∙ words_all (base_of block) (all_bytes 8 rest) (base-fits block fits)
 
 -- So it is of block i of a file whose contents are right.
-module _ (l : List ℕ) (bytes : Elements 8 l) (right : file_answer (contents_tests l (length l)) ≡ Done) (i : ℕ) (h : i < count l)
+module _ (l : List ℕ) (bytes : Elements 8 l) (right : file_answer (contents_tests l (length l)) ≡ Ok tt) (i : ℕ) (h : i < count l)
     (same : entry_of l i ≡ (chosen (block_in l i)).entry) where
   of-bytes : Elements 8 (body_of l i)
   unfolding body_of

@@ -9,9 +9,9 @@ use native.Mathlib.Omega.{arith}
 use lib.ListN.{length, get_or, drop}
 use lib.Seq.{ext_get_or, get_or-take, get_or-drop}
 use borrow.Author.Tests.{eq-eqb}
+use Rattle.std.specs.Prelude.{Ok}
 use Rattle.lists.specs.Pick.{pick}
 use Rattle.little.specs.Little.{little}
-use Rattle.contents.specs.declared.FileAnswer.TheVariants.{Done}
 use Rattle.contents.specs.Answers.{file_answer}
 use Rattle.contents.specs.Contents.{edition, count, contents_size, entry_at, entry_of, range_at_lem, range_of, any_range, bodies_size, body_start, contents_tests}
 use Rattle.contents.proofs.Sizes.{size_second}
@@ -39,8 +39,8 @@ bytes_of l m bl bm (suc n) at e k low high =
 
 -- Two files of edition 2 whose contents are right have the same count, entries, ranges and bodies.
 pub record Alike (l m : List ℕ) : Type 0 where
-  pub right_l : file_answer (contents_tests l (length l)) ≡ Done
-  pub right_m : file_answer (contents_tests m (length m)) ≡ Done
+  pub right_l : file_answer (contents_tests l (length l)) ≡ Ok tt
+  pub right_m : file_answer (contents_tests m (length m)) ≡ Ok tt
   pub second_l : edition l ≡ 2
   pub second_m : edition m ≡ 2
   pub counts : count l ≡ count m

@@ -10,15 +10,15 @@ use native.Mathlib.Decide.{dec_lt, ℕ_discrete}
 use native.Mathlib.Omega.{arith}
 use lib.Dec.{eqb}
 use borrow.Author.Tests.{eq-eqb, eqb-true}
+use Rattle.std.specs.Prelude.{Ok, Err}
 use Rattle.lists.specs.Numbers.{Elements}
 use Rattle.lists.specs.Pick.{pick, both}
 use Rattle.lists.specs.Search.{first_bad}
 use Rattle.lists.specs.Ends.{lowest_of, highest_of}
 use Rattle.lists.proofs.Tests.{both_true}
 use Rattle.places.specs.Sizes.{t64}
-use Rattle.contents.specs.declared.FileAnswer.{FileAnswer}
-use Rattle.contents.specs.declared.FileAnswer.TheVariants.{Done, Edition, Foreign}
-use Rattle.contents.specs.Answers.{file_answer, number_of}
+use Rattle.contents.specs.declared.FileRefusal.TheVariants.{Edition, Foreign}
+use Rattle.contents.specs.Answers.{FileAnswer, file_answer, number_of}
 use Rattle.contents.specs.Contents.{edition, count, entry_of, range_of}
 use Rattle.contents.proofs.Answers.{number-done}
 use Rattle.bodies.specs.Ranges.{true_range, is_range}
@@ -52,7 +52,7 @@ ours_plain l i = (
   λ o. ap₂ both ((entry-same (entry_of l i) (chosen (block_in l i)).entry).1 o.0) ((list_same (body_of l i) (body_for (block_in l i))).1 o.1),
 )
 
-module _ (l : List ℕ) (bytes : Elements 8 l) (done : file_answer (file_tests l) ≡ Done) (second : edition l ≡ 2) where
+module _ (l : List ℕ) (bytes : Elements 8 l) (done : file_answer (file_tests l) ≡ Ok tt) (second : edition l ≡ 2) where
   new-body : (i : ℕ) → i < count l → body_of (new_file l) i ≡ body_for (block_in l i)
   new-body i h = body-read (rows_of l) (count l) (rows_long l done) (few l done) (rows_fit l bytes done) i h ∙ ap body_for (block_at_lem l done bytes i h)
 
@@ -102,15 +102,15 @@ module _ (l : List ℕ) (bytes : Elements 8 l) where
       (none_found (count l) (is_ours l) (Ours l) (ours_plain l) (all_ours l bytes (reason_gives l r) second same))
 
   -- and every file has one.
-  from_second : Reason l Done → edition l ≡ 2 → (a : FileAnswer) × CanonicalReason l a
+  from_second : Reason l (Ok tt) → edition l ≡ 2 → (a : FileAnswer) × CanonicalReason l a
   from_second r second =
       let bad = first_bad (count l) (is_ours l) in
       elim (dec_lt bad (count l)) [
         | yes h ↦ (
-          Foreign bad,
+          Err (Foreign bad),
           a_foreign bad r second h (at-fails (count l) (is_ours l) (Ours l) (ours_plain l) h) (before-holds (count l) (is_ours l) (Ours l) (ours_plain l)),
         )
-        | no h ↦ (Done, as_ours r second (ours_all l bytes (reason_gives l r) second (all_hold (count l) (is_ours l) (Ours l) (ours_plain l) h)))
+        | no h ↦ (Ok tt, as_ours r second (ours_all l bytes (reason_gives l r) second (all_hold (count l) (is_ours l) (Ours l) (ours_plain l) h)))
       ]
 
   from_file : (a : FileAnswer) × CanonicalReason l a
@@ -120,8 +120,8 @@ module _ (l : List ℕ) (bytes : Elements 8 l) where
         | no other ↦ (a, of_file a (λ d. other (ap number_of d)) ((file_exactly l a).0 refl))
         | yes zero ↦
             let d = number-done a zero in
-            let r : Reason l Done = (file_exactly l Done).0 d in
-            ⊎_elim (λ one. (Edition, first_edition r one)) (λ two. from_second r two) (whole l (right l d)).first
+            let r : Reason l (Ok tt) = (file_exactly l (Ok tt)).0 d in
+            ⊎_elim (λ one. (Err Edition, first_edition r one)) (λ two. from_second r two) (whole l (right l d)).first
       ]
 
   -- So each answer is given exactly when the file has the reason for it.
@@ -129,36 +129,36 @@ module _ (l : List ℕ) (bytes : Elements 8 l) where
   canonical_exactly a = ((λ e. subst (CanonicalReason l) (sym (canonical_gives from_file.1) ∙ e) from_file.1), (λ r. canonical_gives r))
 
 -- A file that our writer gave is accepted,
-pub written-accepted : (values : List ℕ) → Blocks values → Elements t64 values → file_answer (canonical_tests (file_of values)) ≡ Done
+pub written-accepted : (values : List ℕ) → Blocks values → Elements t64 values → file_answer (canonical_tests (file_of values)) ≡ Ok tt
 written-accepted values b fits =
-    (canonical_exactly (file_of values) (λ k. file-bytes values k) Done).1
-    (as_ours ((file_exactly (file_of values) Done).0 (file-accepted values b.n b.whole b.few fits)) (edition-is values b.n b.whole b.few fits)
+    (canonical_exactly (file_of values) (λ k. file-bytes values k) (Ok tt)).1
+    (as_ours ((file_exactly (file_of values) (Ok tt)).0 (file-accepted values b.n b.whole b.few fits)) (edition-is values b.n b.whole b.few fits)
     (sym (rewrite-same values b fits)))
 
 -- and no other file is: the check says yes exactly when the file is what the writer gives for some numbers of 64 bits
 -- in whole blocks, at most 256 of them.
 pub canonical-yes : (l : List ℕ) → Elements 8 l
-    → (file_answer (canonical_tests l) ≡ Done) ↔ ((values : List ℕ) × Blocks values × Elements t64 values × (l ≡ file_of values))
+    → (file_answer (canonical_tests l) ≡ Ok tt) ↔ ((values : List ℕ) × Blocks values × Elements t64 values × (l ≡ file_of values))
 canonical-yes l bytes = (
-  λ e. own ((canonical_exactly l bytes Done).0 e),
+  λ e. own ((canonical_exactly l bytes (Ok tt)).0 e),
   λ v. ap (λ x. file_answer (canonical_tests x)) v.3 ∙ written-accepted v.0 v.1 v.2,
 )
   where
-    own : CanonicalReason l Done → (values : List ℕ) × Blocks values × Elements t64 values × (l ≡ file_of values)
+    own : CanonicalReason l (Ok tt) → (values : List ℕ) × Blocks values × Elements t64 values × (l ≡ file_of values)
     own (of_file a n r) = absurd (n refl)
     own (as_ours r second e) = let done = reason_gives l r in (rows_of l, rows_whole l done, rows_fit l bytes done, e)
 
 -- So is one that our rewrite gave.
-pub rewritten_accepted : (l : List ℕ) → Elements 8 l → file_answer (file_tests l) ≡ Done → file_answer (canonical_tests (new_file l)) ≡ Done
+pub rewritten_accepted : (l : List ℕ) → Elements 8 l → file_answer (file_tests l) ≡ Ok tt → file_answer (canonical_tests (new_file l)) ≡ Ok tt
 rewritten_accepted l bytes done =
-    (canonical_exactly (new_file l) (λ k. file-bytes (rows_of l) k) Done).1
-    (as_ours ((file_exactly (new_file l) Done).0 (new-accepted l bytes done)) (new-edition l bytes done) (sym (rewrite-twice l bytes done)))
+    (canonical_exactly (new_file l) (λ k. file-bytes (rows_of l) k) (Ok tt)).1
+    (as_ours ((file_exactly (new_file l) (Ok tt)).0 (new-accepted l bytes done)) (new-edition l bytes done) (sym (rewrite-twice l bytes done)))
 
 -- Of the files with the same rows at most one is accepted.
-pub one-canonical : (l m : List ℕ) → Elements 8 l → Elements 8 m → file_answer (canonical_tests l) ≡ Done → file_answer (canonical_tests m) ≡ Done
+pub one-canonical : (l m : List ℕ) → Elements 8 l → Elements 8 m → file_answer (canonical_tests l) ≡ Ok tt → file_answer (canonical_tests m) ≡ Ok tt
     → rows_of l ≡ rows_of m → l ≡ m
-one-canonical l m bl bm cl cm same = own l ((canonical_exactly l bl Done).0 cl) ∙ ap file_of same ∙ sym (own m ((canonical_exactly m bm Done).0 cm))
+one-canonical l m bl bm cl cm same = own l ((canonical_exactly l bl (Ok tt)).0 cl) ∙ ap file_of same ∙ sym (own m ((canonical_exactly m bm (Ok tt)).0 cm))
   where
-    own : (l : List ℕ) → CanonicalReason l Done → l ≡ file_of (rows_of l)
+    own : (l : List ℕ) → CanonicalReason l (Ok tt) → l ≡ file_of (rows_of l)
     own l (of_file a n r) = absurd (n refl)
     own l (as_ours r second e) = e

@@ -1,10 +1,10 @@
 -- The check of a file that another program wrote (R115, R116): whether it is, byte for byte, what our writer would give
 -- for the rows that it holds. `l` is the file, a list of bytes.
 -- Assumes nothing.
-use Rattle.std.specs.Prelude.{Bool, true, false, List, [], ◌∷◌, ◌++◌, ℕ, eqb}
+use Rattle.std.specs.Prelude.{Bool, true, false, List, [], ◌∷◌, ◌++◌, ℕ, eqb, Err}
 use Rattle.lists.specs.Pick.{both}
 use Rattle.lists.specs.Search.{first_bad}
-use Rattle.contents.specs.declared.FileAnswer.TheVariants.{Edition, Foreign}
+use Rattle.contents.specs.declared.FileRefusal.TheVariants.{Edition, Foreign}
 use Rattle.contents.specs.declared.Entry.{Entry}
 use Rattle.contents.specs.Answers.{FileTest}
 use Rattle.contents.specs.Contents.{edition, count, entry_of}
@@ -36,4 +36,4 @@ foreign l = first_bad (count l) (is_ours l)
 
 -- The tests are those of the reader, then that of the edition, and then that of every block.
 abbrev pub canonical_tests : (l : List ℕ) → List FileTest
-canonical_tests l = file_tests l ++ ((eqb (edition l) 2, Edition) ∷ (eqb (foreign l) (count l), Foreign (foreign l)) ∷ [])
+canonical_tests l = file_tests l ++ ((eqb (edition l) 2, Err Edition) ∷ (eqb (foreign l) (count l), Err (Foreign (foreign l))) ∷ [])

@@ -6,9 +6,9 @@
 // at as well.
 #![tactic(auto)]
 
-ghost use Rattle.std.specs.Prelude.{◌≡◌, true, [], ◌∷◌, ◌≤◌, ◌<◌, eqb, length};
+ghost use Rattle.std.specs.Prelude.{◌≡◌, true, [], ◌∷◌, ◌≤◌, ◌<◌, eqb, length, Ok, Err};
 ghost use Rattle.lists.specs.Pick.{pick, both};
-ghost use Rattle.contents.specs.declared.FileAnswer.TheVariants.{Done, Range as FalseRange, Foreign};
+ghost use Rattle.contents.specs.declared.FileRefusal.TheVariants.{Range as FalseRange, Foreign};
 ghost use Rattle.contents.specs.Answers.{file_answer};
 ghost use Rattle.contents.specs.Contents.{edition as edition_in, count as count_in, body_start};
 ghost use Rattle.bodies.specs.Bodies.{words_from};
@@ -17,7 +17,7 @@ ghost use Rattle.files.specs.Files.{block_in, has_true_range, bad_range, runs_te
 ghost use Rattle.canonical.specs.Canonical.{is_same_entry, is_ours, foreign, canonical_tests};
 
 use candidates::measure;
-use contents::{Entry, FileAnswer, Range, count, edition, entry_or, range_or};
+use contents::{Entry, FileAnswer, FileRefusal, Range, count, edition, entry_or, range_or};
 use files::{block_from, body_from, check_runs};
 use little::word;
 
@@ -32,12 +32,9 @@ struct Seen {
 pub fn check(file: &[u8]) -> FileAnswer
     ensures { result ≡ file_answer (canonical_tests file.now) }
 {
-    let answer = check_runs(file);
-    if answer.number() != 0 {
-        return answer;
-    }
+    check_runs(file)?;
     if edition(file) != 2 {
-        return FileAnswer::Edition;
+        return Err(FileRefusal::Edition);
     }
     check_blocks(file)
 }
@@ -45,18 +42,18 @@ pub fn check(file: &[u8]) -> FileAnswer
 // Checks the blocks of an edition 2 file that is right up to its run indices. A false range is the reader's refusal, so
 // it comes first, in whatever block it is.
 fn check_blocks(file: &[u8]) -> FileAnswer
-    requires file_value { file_answer (runs_tests file.now) ≡ Done }
+    requires file_value { file_answer (runs_tests file.now) ≡ Ok tt }
     requires file_value_2 { edition_in file.now ≡ 2 }
     ensures { result
         ≡ file_answer
         ((
           eqb (bad_range file.now) (count_in file.now),
-          FalseRange
-              (bad_range file.now),
+          Err (FalseRange
+              (bad_range file.now)),
         ) ∷ (
           eqb (foreign file.now) (count_in file.now),
-          Foreign
-              (foreign file.now),
+          Err (Foreign
+              (foreign file.now)),
         ) ∷ []) }
 {
     let n = count(file);
@@ -66,16 +63,16 @@ fn check_blocks(file: &[u8]) -> FileAnswer
     while body.number < n {
         let seen = look(file, body.number, body.at, &mut block);
         if !seen.ranged {
-            return FileAnswer::Range(body.number);
+            return Err(FileRefusal::Range(body.number));
         }
         lowest = lower(lowest, n, seen.ours, body.number);
         let next = bodywise::next(file, body);
         body = next;
     }
     if lowest == n {
-        return FileAnswer::Done;
+        return Ok(());
     }
-    FileAnswer::Foreign(lowest)
+    Err(FileRefusal::Foreign(lowest))
 }
 
 // The lowest block that is not ours, when one more is looked at; before any is found it is n.
@@ -93,7 +90,7 @@ fn lower(lowest: usize, n: usize, ours: bool, number: usize) -> usize
 
 // Lays block i down, whose body begins at `at`, and looks at it.
 fn look(file: &[u8], i: usize, at: usize, block: &mut [u64]) -> Seen
-    requires file_value { file_answer (runs_tests file.now) ≡ Done }
+    requires file_value { file_answer (runs_tests file.now) ≡ Ok tt }
     requires file_value_2 { edition_in file.now ≡ 2 }
     requires i_bound { i < count_in file.now }
     requires at_value { at ≡ body_start file.now i }
@@ -101,7 +98,7 @@ fn look(file: &[u8], i: usize, at: usize, block: &mut [u64]) -> Seen
     ensures ranged_value { result.ranged ≡ has_true_range file.now i }
     ensures ours_value { result.ours ≡ is_ours file.now i }
 {
-    block_from(file, i, at, block);
+    let _ = block_from(file, i, at, block);
     let m = measure(block);
     let entry = m.entry;
     let range = m.range;
@@ -113,7 +110,7 @@ fn look(file: &[u8], i: usize, at: usize, block: &mut [u64]) -> Seen
 
 // Whether block i is as our writer would write it, which would give it this entry.
 fn is_ours(file: &[u8], i: usize, at: usize, entry: Entry, block: &[u64]) -> bool
-    requires file_value { file_answer (runs_tests file.now) ≡ Done }
+    requires file_value { file_answer (runs_tests file.now) ≡ Ok tt }
     requires i_bound { i < count_in file.now }
     requires at_value { at ≡ body_start file.now i }
     requires value { entry ≡ (chosen (block_in file.now i)).entry }
@@ -137,12 +134,10 @@ fn is_base(body: &[u8], block: &[u64]) -> bool
     ensures { (result ≡ true → words_from body.now 0 16 ≡ base_of block.now)
         × (words_from body.now 0 16 ≡ base_of block.now → result ≡ true) }
 {
-    let mut l = 0;
-    while l < 16 {
+    for l in 0..16 {
         if word(body, l * 8) != block[l] {
             return false;
         }
-        l += 1;
     }
     true
 }

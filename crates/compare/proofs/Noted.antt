@@ -12,17 +12,15 @@ use lib.Bits.{bit_or, bit_xor, or_add_and, and_le_l, and_le_r, xor_add_and, xor_
 use lib.Dec.{eqb}
 use lib.ListN.{length, get_or, set, length-append}
 use borrow.Author.Tests.{eq-eqb, ne_eqb, eqb-true}
+use Rattle.std.specs.Prelude.{Result, Ok, Err}
 use Rattle.lists.specs.Tab.{over}
-use Rattle.lists.specs.Pick.{pick}
 use Rattle.lists.specs.Passing.{passing, failing_from}
 use Rattle.lists.proofs.Overs.{set-over, length_over, over_nothing, over_append}
 use Rattle.lists.proofs.Failing.{failing_passed, failing_failed, failing_few, failing_none, failing_all}
-use Rattle.contents.specs.declared.FileAnswer.{FileAnswer}
-use Rattle.contents.specs.declared.FileAnswer.TheVariants.{Done}
-use Rattle.contents.specs.Answers.{file_answer, number_of, is_done, left as leaves}
+use Rattle.contents.specs.declared.FileRefusal.{FileRefusal}
+use Rattle.contents.specs.Answers.{FileAnswer, file_answer, left as leaves, giving}
 use Rattle.contents.proofs.Accepted.{done_first}
-use Rattle.compare.specs.declared.Compared.{Compared}
-use Rattle.compare.specs.declared.Compared.TheVariants.{Places, Refused}
+use Rattle.contents.proofs.Answers.{left-err}
 use Rattle.compare.specs.Changes.{is_same_at, differing, differing_tests, compared_of, differing_leaves}
 use Rattle.compare.specs.InnerSame.{same_of}
 
@@ -152,27 +150,24 @@ noted_all {left} {right} {x} {y} {n} {i} t h =
 
 module _ (left right places : List ℕ) where
   -- the outcome of the call is this result, with this in the room for places
-  abbrev Outcome : Compared → List ℕ → Type 0
+  abbrev Outcome : Result ℕ FileRefusal → List ℕ → Type 0
   Outcome r room = (r ≡ compared_of left right places) × (room ≡ differing_leaves left right places)
 
   by_answer : {a : FileAnswer} → file_answer (differing_tests left right places) ≡ a
-      → Outcome (pick (is_done a) (Places (length (differing left right))) (Refused a)) (leaves a (over 0 (differing left right) places) places)
+      → Outcome (giving a (length (differing left right))) (leaves a (over 0 (differing left right) places) places)
   unfolding compared_of differing_leaves
   by_answer e = (
-    sym (ap (λ a. pick (is_done a) (Places (length (differing left right))) (Refused a)) e),
+    sym (ap (λ a. giving a (length (differing left right))) e),
     sym (ap (λ a. leaves a (over 0 (differing left right) places) places) e),
   )
 
   -- A length that is not 1,024 is refused, and nothing is written.
-  pub lengths-refused : {a : FileAnswer} → a ≡ file_answer (differing_tests left right places) → (number_of a ≡ 0 → ⊥) → Outcome (Refused a) places
-  lengths-refused {a} e n =
+  pub lengths-refused : {r : FileRefusal} → Err r ≡ file_answer (differing_tests left right places) → Outcome (Err r) places
+  lengths-refused {r} e =
       let all = by_answer (sym e) in
-      let other = ne_eqb (number_of a) 0 n in (
-        sym (ap (λ t. pick t (Places (length (differing left right))) (Refused a)) other) ∙ all.0,
-        sym (ap (λ t. pick t (over 0 (differing left right) places) places) other) ∙ all.1,
-      )
+      (all.0, sym (left-err r (over 0 (differing left right) places) places) ∙ all.1)
 
-  module _ (done : file_answer (differing_tests left right places) ≡ Done) where
+  module _ (done : file_answer (differing_tests left right places) ≡ Ok tt) where
     -- Where all three are, they are 1,024 long,
     pub lengths_are : (length left ≡ 1024) × ((length right ≡ 1024) × (length places ≡ 1024))
     lengths_are =
@@ -182,11 +177,11 @@ module _ (left right places : List ℕ) where
         (eqb-true (length left) 1024 l.0, (eqb-true (length right) 1024 r.0, eqb-true (length places) 1024 p.0))
 
     -- the places that differ are counted and written,
-    pub some_differ : {n : ℕ} {y : List ℕ} → n ≡ length (differing left right) → y ≡ over 0 (differing left right) places → Outcome (Places n) y
-    some_differ many is = let all = by_answer done in (ap Places many ∙ all.0, is ∙ all.1)
+    pub some_differ : {n : ℕ} {y : List ℕ} → n ≡ length (differing left right) → y ≡ over 0 (differing left right) places → Outcome (Ok n) y
+    some_differ many is = let all = by_answer done in (ap Ok many ∙ all.0, is ∙ all.1)
 
     -- and blocks that are the same have none.
-    pub none_differ : same_of left right ≡ true → Outcome (Places 0) places
+    pub none_differ : same_of left right ≡ true → Outcome (Ok 0) places
     none_differ e =
         let none = empty (differing left right) (eqb-true (length (differing left right)) 0 e) in
         some_differ (sym (ap length none)) (sym (ap (λ l. over 0 l places) none ∙ over_nothing 0 places))

@@ -8,9 +8,9 @@ use Prim.Native.Nat.{ℕ, min}
 use lib.Dec.{eqb}
 use lib.ListN.{length}
 use borrow.Author.Tests.{eqb-true}
+use Rattle.std.specs.Prelude.{Ok}
 use Rattle.lists.specs.Pick.{pick}
 use Rattle.lists.proofs.Tests.{both_true}
-use Rattle.contents.specs.declared.FileAnswer.TheVariants.{Done}
 use Rattle.contents.specs.Answers.{file_answer}
 use Rattle.contents.specs.Contents.{count, edition_or, count_or, range_or, has_right_entry, contents_tests}
 use Rattle.bodies.specs.Ranges.{is_range}
@@ -35,6 +35,6 @@ range-alike left right i block l r e =
     range-answer left i block l same ∙ sym (range-answer right i block r refl)
 
 -- The blocks that are in both files are counted by their fronts.
-pub both-counted : (l m : List ℕ) → file_answer (contents_tests l (length l)) ≡ Done → file_answer (contents_tests m (length m)) ≡ Done
+pub both-counted : (l m : List ℕ) → file_answer (contents_tests l (length l)) ≡ Ok tt → file_answer (contents_tests m (length m)) ≡ Ok tt
     → min (count_or (front_of l)) (count_or (front_of m)) ≡ min (count l) (count m)
 both-counted l m right also = ap₂ min ((front-right l).count-is right) ((front-right m).count-is also)

@@ -2,19 +2,16 @@
 -- files do, each with both numbers, and the same rows block by block, as a program lists them that holds one block of
 -- each file at a time.
 -- Assumes nothing.
-use Rattle.std.specs.Prelude.{Bool, List, [], ◌∷◌, ◌++◌, map, ℕ, zero, suc, ◌+◌, ◌*◌, min, eqb, length, get_or}
+use Rattle.std.specs.Prelude.{Bool, List, [], ◌∷◌, ◌++◌, map, ℕ, zero, suc, ◌+◌, ◌*◌, min, eqb, length, get_or, Result, Ok, Err}
 use Rattle.lists.specs.Tests.{long}
 use Rattle.lists.specs.Passing.{failing_from}
-use Rattle.lists.specs.Pick.{pick}
 use Rattle.lists.specs.Tab.{over}
-use Rattle.contents.specs.declared.FileAnswer.{FileAnswer}
-use Rattle.contents.specs.declared.FileAnswer.TheVariants.{Done, Block}
-use Rattle.contents.specs.Answers.{FileTest, file_answer, is_done, left as leaves}
+use Rattle.contents.specs.declared.FileRefusal.{FileRefusal}
+use Rattle.contents.specs.declared.FileRefusal.TheVariants.{Block}
+use Rattle.contents.specs.Answers.{FileTest, file_answer, left as leaves, giving}
 use Rattle.contents.specs.Contents.{count}
 use Rattle.files.specs.Files.{block_in, row_at}
 use Rattle.compare.specs.declared.Change.{Change}
-use Rattle.compare.specs.declared.Compared.{Compared}
-use Rattle.compare.specs.declared.Compared.TheVariants.{Places, Refused}
 
 -- This test says that two lists have the same number at place i.
 abbrev pub is_same_at : (left right : List ℕ) (i : ℕ) → Bool
@@ -26,27 +23,20 @@ differing left right = failing_from 0 1024 (is_same_at left right)
 
 -- Both blocks and the room for the places have to be 1,024 long: 2 where one is not.
 abbrev pub differing_tests : (left right places : List ℕ) → List FileTest
-differing_tests left right places = (long 1024 left, Block) ∷ (long 1024 right, Block) ∷ (long 1024 places, Block) ∷ []
+differing_tests left right places = (long 1024 left, Err Block) ∷ (long 1024 right, Err Block) ∷ (long 1024 places, Err Block) ∷ []
 
 -- The comparison of two blocks gives how many places differ, or the refusal,
-unfoldable pub compared_of : (left right places : List ℕ) → Compared
-compared_of left right places =
-    pick (is_done (file_answer (differing_tests left right places))) (Places (length (differing left right)))
-    (Refused (file_answer (differing_tests left right places)))
+unfoldable pub compared_of : (left right places : List ℕ) → Result ℕ FileRefusal
+compared_of left right places = giving (file_answer (differing_tests left right places)) (length (differing left right))
 
 -- and leaves these places at the front of the room for them; what stands behind them stays.
 unfoldable pub differing_leaves : (left right places : List ℕ) → List ℕ
 differing_leaves left right places = leaves (file_answer (differing_tests left right places)) (over 0 (differing left right) places) places
 
--- Places stand for an answer that is done, and a refusal for itself.
-abbrev pub answer_of : Compared → FileAnswer
-answer_of (Places n) = Done
-answer_of (Refused a) = a
-
 -- After a refusal nothing is listed, and 0 stands for how many.
-abbrev pub count_of : Compared → ℕ
-count_of (Places n) = n
-count_of (Refused a) = 0
+abbrev pub count_of : Result ℕ FileRefusal → ℕ
+count_of (Ok n) = n
+count_of (Err refusal) = 0
 
 -- Place p of block i is row 1,024 · i + p, and a change says both numbers there.
 abbrev pub change_at : (i : ℕ) (left right : List ℕ) (p : ℕ) → Change

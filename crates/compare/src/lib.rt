@@ -6,11 +6,11 @@ ghost use Rattle.std.specs.Prelude.{◌≡◌, min, length, get_or};
 ghost use Rattle.lists.specs.Tab.{over};
 ghost use Rattle.contents.specs.Answers.{file_answer};
 ghost use Rattle.contents.specs.Contents.{count_or};
-ghost use Rattle.compare.specs.Changes.{differing as differing_in, differing_tests, compared_of, differing_leaves, answer_of, count_of, change_at};
+ghost use Rattle.compare.specs.Changes.{differing as differing_in, differing_tests, compared_of, differing_leaves, change_at};
 ghost use Rattle.compare.specs.InnerSame.{same_of};
 ghost use Rattle.compare.specs.Ranges.{same_range};
 
-use contents::{FileAnswer, edition, range_or};
+use contents::{FileAnswer, FileRefusal, edition, range_or};
 use little::pair;
 
 // A row whose numbers differ.
@@ -19,35 +19,6 @@ pub struct Change {
     pub row: u64,
     pub left: u64,
     pub right: u64,
-}
-
-// How many places of two blocks differ, or the refusal.
-#[derive(Clone, Copy)]
-pub enum Compared {
-    Places(usize),
-    Refused(FileAnswer),
-}
-
-impl Compared {
-    // The answer in the terms of the other calls.
-    pub fn answer(self) -> FileAnswer
-        ensures { result ≡ answer_of self }
-    {
-        match self {
-            Compared::Places(_) => FileAnswer::Done,
-            Compared::Refused(a) => a,
-        }
-    }
-
-    // How many places differ; 0 after a refusal.
-    pub fn count(self) -> usize
-        ensures { result ≡ count_of self }
-    {
-        match self {
-            Compared::Places(n) => n,
-            Compared::Refused(_) => 0,
-        }
-    }
 }
 
 // Whether two files say the same of the range of block i. Where they do, a block that is the same in both has its true
@@ -74,19 +45,16 @@ pub fn blocks_in_both(left: &[u8], right: &[u8]) -> u16
 
 // Lists the places at which two blocks differ, rising, from the front of `places` on, and says how many they are. Both
 // blocks and the room for places have to be 1,024 long. Equal blocks are not gone through place by place.
-pub fn differing(left: &[u64], right: &[u64], places: &mut [u16]) -> Compared
+pub fn differing(left: &[u64], right: &[u64], places: &mut [u16]) -> Result<usize, FileRefusal>
     ensures value { result ≡ compared_of left.now right.now places.old }
     ensures places_after { places.new
         ≡ differing_leaves left.now right.now places.old }
 {
-    let lengths = check_lengths(left, right, places);
-    if lengths.number() != 0 {
-        return Compared::Refused(lengths);
-    }
+    check_lengths(left, right, places)?;
     if are_same(left, right) {
-        return Compared::Places(0);
+        return Ok(0);
     }
-    Compared::Places(list_places(left, right, places))
+    Ok(list_places(left, right, places))
 }
 
 // Whether both blocks and the room for places are 1,024 long.
@@ -94,15 +62,15 @@ fn check_lengths(left: &[u64], right: &[u64], places: &[u16]) -> FileAnswer
     ensures { result ≡ file_answer (differing_tests left.now right.now places.now) }
 {
     if left.len() != 1024 {
-        return FileAnswer::Block;
+        return Err(FileRefusal::Block);
     }
     if right.len() != 1024 {
-        return FileAnswer::Block;
+        return Err(FileRefusal::Block);
     }
     if places.len() != 1024 {
-        return FileAnswer::Block;
+        return Err(FileRefusal::Block);
     }
-    FileAnswer::Done
+    Ok(())
 }
 
 // Whether two blocks are the same. What is apart at each place is joined by `|`, so that there is no branch for a
@@ -113,10 +81,8 @@ fn are_same(left: &[u64], right: &[u64]) -> bool
     ensures { result ≡ same_of left.now right.now }
 {
     let mut any: u64 = 0;
-    let mut i = 0;
-    while i < 1024 {
+    for i in 0..1024 {
         any = any | (left[i] ^ right[i]);
-        i += 1;
     }
     any == 0
 }
@@ -131,13 +97,11 @@ fn list_places(left: &[u64], right: &[u64], places: &mut [u16]) -> usize
         ≡ over 0 (differing_in left.now right.now) places.old }
 {
     let mut n = 0;
-    let mut i = 0;
-    while i < left.len() {
+    for i in 0..left.len() {
         if left[i] != right[i] {
             places[n] = i as u16;
             n += 1;
         }
-        i += 1;
     }
     n
 }

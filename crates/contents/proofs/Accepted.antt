@@ -8,34 +8,34 @@ use native.Mathlib.Omega.{arith}
 use lib.Dec.{eqb, leb}
 use lib.ListN.{length}
 use borrow.Author.Tests.{leb-true, eqb-true}
+use Rattle.std.specs.Prelude.{Ok}
 use Rattle.lists.specs.Pick.{both, either}
 use Rattle.lists.proofs.Tests.{both_true, false-true}
 use Rattle.lists.proofs.Search.{first_only, first-before}
-use Rattle.contents.specs.declared.FileAnswer.TheVariants.{Done}
 use Rattle.contents.specs.Answers.{FileTest, file_answer, is_done}
 use Rattle.contents.specs.Contents.{edition, count, contents_size, entry_of, range_of, is_laid_out, is_taken_in, is_ordered, is_right, bad_entry, body_start, contents_tests}
 use Rattle.contents.proofs.Answers.{passed, stopped, none_left, refuses, refuses-first, in_front-done}
 use Rattle.contents.proofs.Checks.{Known, true_known, entries_there, entries-done}
 
 -- A call that is done has passed its first test, and is done with the others.
-pub done_first : (x : FileTest) (xs : List FileTest) → is_done x.1 ≡ false → file_answer (x ∷ xs) ≡ Done → (x.0 ≡ true) × (file_answer xs ≡ Done)
+pub done_first : (x : FileTest) (xs : List FileTest) → is_done x.1 ≡ false → file_answer (x ∷ xs) ≡ Ok tt → (x.0 ≡ true) × (file_answer xs ≡ Ok tt)
 done_first x xs other e = go x.0 refl
   where
-    go : (b : Bool) → x.0 ≡ b → (x.0 ≡ true) × (file_answer xs ≡ Done)
+    go : (b : Bool) → x.0 ≡ b → (x.0 ≡ true) × (file_answer xs ≡ Ok tt)
     go true p = (p, sym (passed x xs p) ∙ e)
     go false p = absurd (false-true (sym other ∙ ap is_done (sym (stopped x xs p) ∙ e)))
 
 -- A call that is done is done with the tests in front and with those behind them, and the other way round.
-pub done-front : (xs ys : List FileTest) → refuses xs ≡ true → file_answer (xs ++ ys) ≡ Done → (file_answer xs ≡ Done) × (file_answer ys ≡ Done)
+pub done-front : (xs ys : List FileTest) → refuses xs ≡ true → file_answer (xs ++ ys) ≡ Ok tt → (file_answer xs ≡ Ok tt) × (file_answer ys ≡ Ok tt)
 done-front [] ys r e = (none_left, e)
 done-front (x ∷ xs) ys r e = go x.0 refl (done-front xs ys (refuses-first x xs r).1)
   where
-    go : (b : Bool) → x.0 ≡ b → (file_answer (xs ++ ys) ≡ Done → (file_answer xs ≡ Done) × (file_answer ys ≡ Done))
-        → (file_answer (x ∷ xs) ≡ Done) × (file_answer ys ≡ Done)
+    go : (b : Bool) → x.0 ≡ b → (file_answer (xs ++ ys) ≡ Ok tt → (file_answer xs ≡ Ok tt) × (file_answer ys ≡ Ok tt))
+        → (file_answer (x ∷ xs) ≡ Ok tt) × (file_answer ys ≡ Ok tt)
     go true p rest = let parts = rest (sym (passed x (xs ++ ys) p) ∙ e) in (passed x xs p ∙ parts.0, parts.1)
     go false p rest = absurd ((refuses-first x xs r).0 (sym (stopped x (xs ++ ys) p) ∙ e))
 
-pub done-both : (xs ys : List FileTest) → refuses xs ≡ true → file_answer xs ≡ Done → file_answer ys ≡ Done → file_answer (xs ++ ys) ≡ Done
+pub done-both : (xs ys : List FileTest) → refuses xs ≡ true → file_answer xs ≡ Ok tt → file_answer ys ≡ Ok tt → file_answer (xs ++ ys) ≡ Ok tt
 done-both xs ys r e f = in_front-done xs ys r e ∙ f
 
 -- The contents in l are those of a file of `size` bytes.
@@ -69,7 +69,7 @@ module _ (l : List ℕ) (size : ℕ) where
   unfolding bad_entry
   all_right e i h = first-before (count l) (is_right l) i (omega arith)
 
-  pub accepted : file_answer (contents_tests l size) ≡ Done → Whole l size
+  pub accepted : file_answer (contents_tests l size) ≡ Ok tt → Whole l size
   accepted done =
       let t0 = done_first _ _ refl done in
       let t1 = done_first _ _ refl t0.1 in
@@ -89,7 +89,7 @@ module _ (l : List ℕ) (size : ℕ) where
         end = omega arith;
       }
 
-  pub accepts : Whole l size → file_answer (contents_tests l size) ≡ Done
+  pub accepts : Whole l size → file_answer (contents_tests l size) ≡ Ok tt
   accepts w =
       entries_there l size w.head w.first w.few w.room
       ∙ entries-done l size (none_bad w.right) (omega (arith, w.end)) (omega (arith, w.end))

@@ -14,11 +14,12 @@ use lib.Dec.{eqb, leb}
 use lib.ListN.{length, take, length-take}
 use lib.Seq.{get_or-take}
 use borrow.Author.Tests.{eqb-true}
+use Rattle.std.specs.Prelude.{Err}
 use Rattle.lists.specs.Pick.{pick, both}
 use Rattle.lists.specs.Search.{first_bad}
 use Rattle.lists.proofs.Search.{first_ext}
 use Rattle.little.specs.Little.{little}
-use Rattle.contents.specs.declared.FileAnswer.TheVariants.{BadEntry, Cut, Over}
+use Rattle.contents.specs.declared.FileRefusal.TheVariants.{BadEntry, Cut, Over}
 use Rattle.contents.specs.Answers.{file_answer}
 use Rattle.contents.specs.Contents.{edition, count, contents_size, entry_at, entry_of, entry_or, range_at_lem, any_range, range_of, range_or, is_laid_out, is_taken_in, is_ordered, is_right, has_right_entry, bad_entry, bodies_size, body_start, entries_tests, contents_tests}
 use Rattle.contents.proofs.Checks.{Known, known_or_not, short_head, other_edition, many_blocks, short_entries, entries_there}
@@ -99,11 +100,11 @@ module _ (l : List ℕ) (k : ℕ) (four : 4 ≤ k) (all : count l ≤ 256 → co
 
     entries-front : (size : ℕ) → file_answer (entries_tests (take k l) size) ≡ file_answer (entries_tests l size)
     entries-front size =
-        ap₂ (λ b s. file_answer ((eqb b (count (take k l)), BadEntry b) ∷ (leb s size, Cut) ∷ (leb size s, Over) ∷ [])) bad_front start-front
+        ap₂ (λ b s. file_answer ((eqb b (count (take k l)), Err (BadEntry b)) ∷ (leb s size, Err Cut) ∷ (leb size s, Err Over) ∷ [])) bad_front start-front
         ∙ ap (λ c. file_answer
-        ((eqb (bad_entry l) c, BadEntry (bad_entry l))
-        ∷ (leb (body_start l (count l)) size, Cut)
-        ∷ (leb size (body_start l (count l)), Over)
+        ((eqb (bad_entry l) c, Err (BadEntry (bad_entry l)))
+        ∷ (leb (body_start l (count l)) size, Err Cut)
+        ∷ (leb size (body_start l (count l)), Err Over)
         ∷ [])) count-front
 
   contents-size : contents_size (edition (take k l)) (count (take k l)) ≡ contents_size (edition l) (count l)

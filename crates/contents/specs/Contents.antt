@@ -4,12 +4,12 @@
 --
 -- `l` is the front of a file, of which the contents are the first bytes; the whole file is its own front.
 -- Assumes nothing.
-use Rattle.std.specs.Prelude.{Bool, true, false, List, [], ◌∷◌, ◌≡◌, ℕ, zero, suc, ◌+◌, ◌*◌, ◌%◌, eqb, leb, ltb, length, get_or}
+use Rattle.std.specs.Prelude.{Bool, true, false, List, [], ◌∷◌, ◌≡◌, ℕ, zero, suc, ◌+◌, ◌*◌, ◌%◌, eqb, leb, ltb, length, get_or, Ok, Err}
 use Rattle.lists.specs.Pick.{pick, both, either}
 use Rattle.lists.specs.Search.{first_bad}
 use Rattle.places.specs.Sizes.{largest_u64}
 use Rattle.little.specs.Little.{little, little_or}
-use Rattle.contents.specs.declared.FileAnswer.TheVariants.{Done, BadEntry, Cut, Edition, Over}
+use Rattle.contents.specs.declared.FileRefusal.TheVariants.{BadEntry, Cut, Edition, Over}
 use Rattle.contents.specs.declared.Entry.{Entry}
 use Rattle.contents.specs.declared.Range.{Range}
 use Rattle.contents.specs.Answers.{FileTest, file_answer}
@@ -111,23 +111,23 @@ body_start l i = contents_size (edition l) (count l) + bodies_size l i
 -- These are the tests of the entries, for a file of `size` bytes of which l is the front.
 abbrev pub entries_tests : (l : List ℕ) (size : ℕ) → List FileTest
 entries_tests l size =
-    (eqb (bad_entry l) (count l), BadEntry (bad_entry l))
-    ∷ (leb (body_start l (count l)) size, Cut)
-    ∷ (leb size (body_start l (count l)), Over)
+    (eqb (bad_entry l) (count l), Err (BadEntry (bad_entry l)))
+    ∷ (leb (body_start l (count l)) size, Err Cut)
+    ∷ (leb size (body_start l (count l)), Err Over)
     ∷ []
 
 -- These are the tests of the contents: of the edition and the count, whether the entries are there, and then of the
 -- entries.
 abbrev pub contents_tests : (l : List ℕ) (size : ℕ) → List FileTest
 contents_tests l size =
-    (leb 4 (length l), Cut)
-    ∷ (both (either (eqb (edition l) 1) (eqb (edition l) 2)) (leb (count l) 256), Edition)
-    ∷ (leb (contents_size (edition l) (count l)) (length l), Cut)
+    (leb 4 (length l), Err Cut)
+    ∷ (both (either (eqb (edition l) 1) (eqb (edition l) 2)) (leb (count l) 256), Err Edition)
+    ∷ (leb (contents_size (edition l) (count l)) (length l), Err Cut)
     ∷ entries_tests l size
 
 -- The contents of a file are taken where none of their tests fails.
 abbrev pub ContentsTaken : (l : List ℕ) → Type 0
-ContentsTaken l = file_answer (contents_tests l (length l)) ≡ Done
+ContentsTaken l = file_answer (contents_tests l (length l)) ≡ Ok tt
 
 -- Where an entry is not there, this stands for it. It is of no kind, so it is not as laid out.
 abbrev pub no_entry : Entry

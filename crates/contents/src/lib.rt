@@ -3,21 +3,20 @@
 // file is needed for that: a program that holds no more than the front of a file can ask here whether the file's
 // contents are right (R91). The calls that begin with put write them, as edition 2 (R106).
 //
-// FileAnswer, what every call on a column file answers, stands here too.
+// FileAnswer, what every call on a column file answers, stands here too, with the refusals.
 #![tactic(auto)]
 
 ghost use Rattle.std.specs.Prelude.{◌≡◌, ◌+◌, ◌*◌, ◌≤◌, ◌<◌, leb, length};
 ghost use Rattle.lists.specs.Search.{first_bad};
-ghost use Rattle.contents.specs.Answers.{number_of, place_of, file_answer};
+ghost use Rattle.contents.specs.Answers.{refusal_number, refusal_place, number_of, place_of, file_answer};
 ghost use Rattle.contents.specs.Contents.{edition as edition_in, count as count_in, contents_size, entry_size, entry_at, entry_or, range_at_lem, range_or, any_range, range_of as range_in, no_entry, edition_or, count_or, is_packed, is_runs, is_of_kind, is_laid_out, is_ordered, is_right, has_right_entry, bodies_size, entries_tests, contents_tests};
 ghost use Rattle.contents.specs.Bytes.{head_leaves, first_leaves, entry_leaves};
 
 use little::{pair, put_pair, put_quad, put_word, quad, word};
 
-// What a call on a file answers: that it is done, or why it is refused.
-#[derive(Clone, Copy)]
-pub enum FileAnswer {
-    Done,
+// Why a call on a file is refused.
+#[derive(Clone, Copy, Debug, PartialEq, Eq)]
+pub enum FileRefusal {
     // a block or the room for places that is lent is not 1,024 long, or the numbers to be written are no whole blocks
     // or more than 256 of them
     Block,
@@ -43,43 +42,64 @@ pub enum FileAnswer {
     Foreign(usize),
 }
 
-impl FileAnswer {
-    // The number that stands for the answer: 0 where the call is done.
+impl FileRefusal {
+    // The number that stands for the refusal.
     pub fn number(self) -> usize
-        ensures { result ≡ number_of self }
+        ensures { result ≡ refusal_number self }
     {
         match self {
-            FileAnswer::Done => 0,
-            FileAnswer::Block => 2,
-            FileAnswer::Cut => 8,
-            FileAnswer::Edition => 9,
-            FileAnswer::BadEntry(_) => 10,
-            FileAnswer::Over => 11,
-            FileAnswer::Beyond => 12,
-            FileAnswer::Runs(_) => 13,
-            FileAnswer::Room => 14,
-            FileAnswer::Range(_) => 15,
-            FileAnswer::Foreign(_) => 17,
+            FileRefusal::Block => 2,
+            FileRefusal::Cut => 8,
+            FileRefusal::Edition => 9,
+            FileRefusal::BadEntry(_) => 10,
+            FileRefusal::Over => 11,
+            FileRefusal::Beyond => 12,
+            FileRefusal::Runs(_) => 13,
+            FileRefusal::Room => 14,
+            FileRefusal::Range(_) => 15,
+            FileRefusal::Foreign(_) => 17,
         }
     }
 
     // The place that is given back with the number.
     pub fn place(self) -> usize
-        ensures { result ≡ place_of self }
+        ensures { result ≡ refusal_place self }
     {
         match self {
-            FileAnswer::BadEntry(p) => p,
-            FileAnswer::Runs(p) => p,
-            FileAnswer::Range(p) => p,
-            FileAnswer::Foreign(p) => p,
-            FileAnswer::Done => 0,
-            FileAnswer::Block => 0,
-            FileAnswer::Cut => 0,
-            FileAnswer::Edition => 0,
-            FileAnswer::Over => 0,
-            FileAnswer::Beyond => 0,
-            FileAnswer::Room => 0,
+            FileRefusal::BadEntry(p) => p,
+            FileRefusal::Runs(p) => p,
+            FileRefusal::Range(p) => p,
+            FileRefusal::Foreign(p) => p,
+            FileRefusal::Block => 0,
+            FileRefusal::Cut => 0,
+            FileRefusal::Edition => 0,
+            FileRefusal::Over => 0,
+            FileRefusal::Beyond => 0,
+            FileRefusal::Room => 0,
         }
+    }
+}
+
+// What a call on a file answers: that it is done, or why it is refused.
+pub type FileAnswer = Result<(), FileRefusal>;
+
+// The number that stands for an answer: 0 where the call is done.
+pub fn number_of(answer: FileAnswer) -> usize
+    ensures { result ≡ number_of answer }
+{
+    match answer {
+        Ok(()) => 0,
+        Err(refusal) => refusal.number(),
+    }
+}
+
+// The place that is given back with the number: 0 where the call is done.
+pub fn place_of(answer: FileAnswer) -> usize
+    ensures { result ≡ place_of answer }
+{
+    match answer {
+        Ok(()) => 0,
+        Err(refusal) => refusal.place(),
     }
 }
 
@@ -343,20 +363,20 @@ pub fn check(front: &[u8], size: usize) -> FileAnswer
     ensures { result ≡ file_answer (contents_tests front.now size) }
 {
     if front.len() < 4 {
-        return FileAnswer::Cut;
+        return Err(FileRefusal::Cut);
     }
     let edition = edition(front);
     if edition != 1 {
         if edition != 2 {
-            return FileAnswer::Edition;
+            return Err(FileRefusal::Edition);
         }
     }
     let n = count(front);
     if 256 < n {
-        return FileAnswer::Edition;
+        return Err(FileRefusal::Edition);
     }
     if front.len() < contents_size(edition, n) {
-        return FileAnswer::Cut;
+        return Err(FileRefusal::Cut);
     }
     check_entries(front, edition, n, size)
 }
@@ -371,16 +391,16 @@ fn check_entries(front: &[u8], edition: usize, n: usize, size: usize) -> FileAns
 {
     let lowest = bad_entry(front, edition, n);
     if lowest < n {
-        return FileAnswer::BadEntry(lowest);
+        return Err(FileRefusal::BadEntry(lowest));
     }
     let end = contents_size(edition, n) + bodies_of(front, edition, n);
     if size < end {
-        return FileAnswer::Cut;
+        return Err(FileRefusal::Cut);
     }
     if end < size {
-        return FileAnswer::Over;
+        return Err(FileRefusal::Over);
     }
-    FileAnswer::Done
+    Ok(())
 }
 
 // The lowest of n entries that is not right; n where there is none.
@@ -429,12 +449,10 @@ fn bodies_of(front: &[u8], edition: usize, n: usize) -> usize
     let size = entry_size(edition);
     let mut at = 4;
     let mut sum = 0;
-    let mut i = 0;
-    while i < n {
+    for i in 0..n {
         let e = entry_at(front, at);
         sum += e.length as usize;
         at += size;
-        i += 1;
     }
     sum
 }

@@ -1,5 +1,6 @@
 -- A text is read as something exactly when it has the reason for it, in plain arithmetic.
 -- Assumes nothing.
+use Rattle.std.specs.Prelude.{Ok, Err}
 use mathlib.Core.Bool.{Bool, true, false}
 use mathlib.Core.List.{List, [], ◌∷◌, map}
 use mathlib.Core.Logic.{◌↔◌}
@@ -13,8 +14,8 @@ use borrow.Author.Tests.{lt-ltb, le-ltb, eq-eqb, ne_eqb, ltb-true, ltb-false, le
 use Rattle.lists.specs.Pick.{pick}
 use Rattle.lists.specs.Search.{first_beyond}
 use Rattle.lists.proofs.Search.{first-beyond_le, first-beyond-before, first-beyond-at, first-beyond_only}
-use Rattle.decimal.specs.declared.Parsed.{Parsed}
-use Rattle.decimal.specs.declared.Parsed.TheVariants.{Number, Empty, Other, Large}
+use Rattle.decimal.specs.Calls.{Parsed}
+use Rattle.decimal.specs.declared.NoNumber.TheVariants.{Empty, Other, Large}
 use Rattle.decimal.specs.Decimal.{digit_of, digits_of, value_from, value_of}
 use Rattle.decimal.specs.Calls.{parsed_of}
 use Rattle.decimal.specs.Reasons.{IsDigit, Digits, sum_of, Reason}
@@ -88,7 +89,7 @@ reason_given text =
     every e = below_digits text (length text) (omega (arith, ltb-false (first_beyond 10 (digits_of text)) (length (digits_of text)) e, digits_length text))
 
     go : (t : Bool) → eqb (length text) 0 ≡ t → (u : Bool) → ltb (first_beyond 10 (digits_of text)) (length (digits_of text)) ≡ u → (w : Bool) → ltb (value_of (digits_of text)) 18446744073709551616 ≡ w
-        → Reason text (pick t Empty (pick u (Other (first_beyond 10 (digits_of text))) (pick w (Number (value_of (digits_of text))) Large)))
+        → Reason text (pick t (Err Empty) (pick u (Err (Other (first_beyond 10 (digits_of text)))) (pick w (Ok (value_of (digits_of text))) (Err Large))))
     go true e u f w g = eqb-true (length text) 0 e
     go false e true f w g =
         let there : (first_beyond 10 (digits_of text)) < length text = omega (arith, ltb-true (first_beyond 10 (digits_of text)) (length (digits_of text)) f, digits_length text) in (
@@ -108,14 +109,14 @@ none_other text all =
 
 -- Nothing else has a reason.
 reason_only : (text : List ℕ) (r : Parsed) → Reason text r → r ≡ parsed_of text
-reason_only text Empty e = simp (eq-eqb (length text) 0 e)
-reason_only text (Other p) h =
+reason_only text (Err Empty) e = simp (eq-eqb (length text) 0 e)
+reason_only text (Err (Other p)) h =
     let other : 10 ≤ get_or (digits_of text) p 0 = omega (arith, beyond-digit (get_or text p 0) h.1, digit_at text p h.0) in
     let found : p ≡ first_beyond 10 (digits_of text) =
     first-beyond_only 10 (digits_of text) p (omega (arith, h.0, digits_length text)) (digits_below text p (omega (arith, h.0)) h.2) (λ _. other) in
     let there : first_beyond 10 (digits_of text) < length (digits_of text) = omega (arith, found, h.0, digits_length text) in
-    simp (ne_eqb (length text) 0 (λ e. absurd (omega (arith, h.0))), lt-ltb _ _ there) (ap Other found)
-reason_only text (Number n) h =
+    simp (ne_eqb (length text) 0 (λ e. absurd (omega (arith, h.0))), lt-ltb _ _ there) (ap (λ q. Err (Other q)) found)
+reason_only text (Ok n) h =
     let none = none_other text h.1 in
     let value : n ≡ value_of (digits_of text) = h.3 ∙ sym (value-is text h.1) in
     let few : value_of (digits_of text) < 18446744073709551616 = omega (arith, value, h.2) in
@@ -123,8 +124,8 @@ reason_only text (Number n) h =
       ne_eqb (length text) 0 (λ e. absurd (omega (arith, h.0))),
       le-ltb (first_beyond 10 (digits_of text)) (length (digits_of text)) (omega (arith, none)),
       lt-ltb (value_of (digits_of text)) 18446744073709551616 few,
-    ) (ap Number value)
-reason_only text Large h =
+    ) (ap Ok value)
+reason_only text (Err Large) h =
     let none = none_other text h.1 in
     let many : 18446744073709551616 ≤ value_of (digits_of text) = omega (arith, value-is text h.1, h.2) in
     simp (

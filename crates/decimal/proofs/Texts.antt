@@ -1,5 +1,6 @@
 -- The laws of the text of a number: how it is laid, digit by digit, and that reading and laying are inverse.
 -- Assumes nothing.
+use Rattle.std.specs.Prelude.{Ok, Err}
 use mathlib.Core.Bool.{Bool, true, false}
 use mathlib.Core.List.{List, [], ◌∷◌, ◌++◌, map, map-append}
 use mathlib.Core.Path.{◌≡◌, refl, sym, ap, ap₂, ◌∙◌}
@@ -16,7 +17,7 @@ use Rattle.lists.specs.Search.{first_failing, first_beyond}
 use Rattle.lists.specs.Tab.{over}
 use Rattle.lists.proofs.Search.{first-beyond_le, first-beyond-before}
 use Rattle.lists.proofs.Overs.{set-over, over_append, over-apart}
-use Rattle.decimal.specs.declared.Parsed.TheVariants.{Number, Empty, Other, Large}
+use Rattle.decimal.specs.declared.NoNumber.TheVariants.{Empty, Other, Large}
 use Rattle.decimal.specs.Decimal.{digit_of, digits_of, value_from, value_of, digits_in, text_of, Bare}
 use Rattle.decimal.specs.Calls.{digits_or, parsed_of}
 use Rattle.decimal.proofs.Digits.{digits_one, digits_more, digits_below, digits_few, digits_value, value_digits}
@@ -125,7 +126,7 @@ unfolding digits_of text_of
 digits_text n = same_digits (digits_in n)
 
 -- The text of every number of 64 bits is read as that number.
-pub parse-text : (n : ℕ) → n < 18446744073709551616 → parsed_of (text_of n) ≡ Number n
+pub parse-text : (n : ℕ) → n < 18446744073709551616 → parsed_of (text_of n) ≡ Ok n
 parse-text n h =
     let some : length (text_of n) ≡ 0 → ⊥ = λ e. absurd (omega (arith, long_some n)) in
     simp (
@@ -146,11 +147,11 @@ record Read (digits : List ℕ) (n : ℕ) : Type 0 where
   below : first_beyond 10 digits ≡ length digits
   value : value_of digits ≡ n
 
-read_number : (digits : List ℕ) (n : ℕ) → digits_or digits ≡ Number n → Read digits n
+read_number : (digits : List ℕ) (n : ℕ) → digits_or digits ≡ Ok n → Read digits n
 read_number x n e = go (ltb (first_beyond 10 x) (length x)) refl (ltb (value_of x) 18446744073709551616) e
   where
     go : (t : Bool) → ltb (first_beyond 10 x) (length x) ≡ t → (u : Bool)
-        → pick t (Other (first_beyond 10 x)) (pick u (Number (value_of x)) Large) ≡ Number n → Read x n
+        → pick t (Err (Other (first_beyond 10 x))) (pick u (Ok (value_of x)) (Err Large)) ≡ Ok n → Read x n
     go true f u e = let z : ◌≡◌ {A = ℕ} 0 1 = cc in absurd (omega arith)
     go false f false e = let z : ◌≡◌ {A = ℕ} 0 1 = cc in absurd (omega arith)
     go false f true e =
@@ -198,11 +199,11 @@ bare_digits (b ∷ c ∷ text) n some bare read =
         absurd (omega (arith, bare zero-byte))
 
 -- A bare text that is read is the text of what was read.
-pub text-parse : (text : List ℕ) (n : ℕ) → parsed_of text ≡ Number n → Bare text → text_of n ≡ text
+pub text-parse : (text : List ℕ) (n : ℕ) → parsed_of text ≡ Ok n → Bare text → text_of n ≡ text
 unfolding text_of digits_of
 text-parse text n e bare = go (eqb (length text) 0) refl e
   where
-    go : (t : Bool) → eqb (length text) 0 ≡ t → pick t Empty (digits_or (map digit_of text)) ≡ Number n → text_of n ≡ text
+    go : (t : Bool) → eqb (length text) 0 ≡ t → pick t (Err Empty) (digits_or (map digit_of text)) ≡ Ok n → text_of n ≡ text
     go true f e = let z : ◌≡◌ {A = ℕ} 0 1 = cc in absurd (omega arith)
     go false f e =
         let read = read_number (map digit_of text) n e in

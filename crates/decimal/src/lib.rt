@@ -9,10 +9,9 @@ ghost use Rattle.lists.specs.Tab.{over};
 ghost use Rattle.decimal.specs.Decimal.{digit_of, digits_of, text_of};
 ghost use Rattle.decimal.specs.Calls.{number_or, parsed_of, laid_of, lay_leaves};
 
-// What a text is read as: a number, or why it is none.
+// Why a text is no number.
 #[derive(Clone, Copy)]
-pub enum Parsed {
-    Number(u64),
+pub enum NoNumber {
     // there are no bytes
     Empty,
     // a byte is no digit; the lowest such place
@@ -21,16 +20,19 @@ pub enum Parsed {
     Large,
 }
 
+// What a text is read as: a number, or why it is none.
+pub type Parsed = Result<u64, NoNumber>;
+
 // Reads a text as a number. Zeros at the front are taken.
 pub fn parse(text: &[u8]) -> Parsed
     ensures { result ≡ parsed_of text.now }
 {
     if text.len() == 0 {
-        return Parsed::Empty;
+        return Err(NoNumber::Empty);
     }
     let p = first_other(text);
     if p < text.len() {
-        return Parsed::Other(p);
+        return Err(NoNumber::Other(p));
     }
     read_digits(text)
 }
@@ -49,14 +51,12 @@ fn digit(byte: u8) -> u8
 fn first_other(text: &[u8]) -> usize
     ensures { result ≡ first_beyond 10 (digits_of text.now) }
 {
-    let mut i = 0;
-    while i < text.len() {
+    for i in 0..text.len() {
         if 10 <= digit(text[i]) {
             return i;
         }
-        i += 1;
     }
-    i
+    text.len()
 }
 
 // The number of the digits, where it fits 64 bits. Whether it still fits is asked before each digit is taken.
@@ -64,16 +64,14 @@ fn read_digits(text: &[u8]) -> Parsed
     ensures { result ≡ number_or (digits_of text.now) }
 {
     let mut v: u64 = 0;
-    let mut i = 0;
-    while i < text.len() {
+    for i in 0..text.len() {
         let d = digit(text[i]) as u64;
         if (18446744073709551615 - d) / 10 < v {
-            return Parsed::Large;
+            return Err(NoNumber::Large);
         }
         v = v * 10 + d;
-        i += 1;
     }
-    Parsed::Number(v)
+    Ok(v)
 }
 
 // How many bytes the text of a number has: from 1 to 20.

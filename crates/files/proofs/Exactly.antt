@@ -1,6 +1,7 @@
 -- A file gets an answer exactly when it has the reason for it: the refusals of the reader (R90), each exactly when
 -- (R3), in both directions, for the check, for one block out and for the lookup of a row.
 -- Assumes nothing.
+use Rattle.std.specs.Prelude.{Ok, Err}
 use Rattle.std.proofs.Common.{◌≡◌, ℕ, ◌*◌, ◌<◌, ◌≤◌, Bool, true, false, eqb, ltb, ◌≢◌, ◌⊎◌, ◌↔◌, List, [], ◌∷◌, ◌++◌, length, get_or, sym, refl, ap, ◌∙◌, subst, ap₂, inl, inr, ⊎_elim, arith, le-ltb, lt-ltb, eq-eqb, ne_eqb, eqb-true}
 use native.Mathlib.Decide.{dec_le, dec_lt, ℕ_discrete}
 use borrow.Author.Tests.{eqb-false}
@@ -13,9 +14,8 @@ use Rattle.lists.proofs.Tabs.{get_d_tab, length-tab}
 use Rattle.lists.proofs.Tests.{not_then, false-true, both_true}
 use Rattle.little.specs.Little.{little, numbers_of}
 use Rattle.contents.specs.declared.Entry.{Entry}
-use Rattle.contents.specs.declared.FileAnswer.{FileAnswer}
-use Rattle.contents.specs.declared.FileAnswer.TheVariants.{Done, Block, Cut, Edition, BadEntry, Over, Beyond, Runs, Range}
-use Rattle.contents.specs.Answers.{FileTest, file_answer, number_of}
+use Rattle.contents.specs.declared.FileRefusal.TheVariants.{Block, Cut, Edition, BadEntry, Over, Beyond, Runs, Range}
+use Rattle.contents.specs.Answers.{FileAnswer, FileTest, file_answer, number_of}
 use Rattle.contents.specs.Contents.{edition, count, contents_size, entry_of, range_of, is_right, bad_entry, body_start, entries_tests, contents_tests}
 use Rattle.contents.proofs.Accepted.{accepted, accepts}
 use Rattle.contents.proofs.Answers.{passed, stopped, none_left, in_front-done, in_front-refused, number-done}
@@ -128,19 +128,19 @@ module _ (l : List ℕ) where
 
   -- ---- a reason gives its answer
 
-  -- no refusal is Done
-  apart : (a : FileAnswer) → (number_of a ≡ 0 → ⊥) → a ≡ Done → ⊥
+  -- no refusal says that the call is done
+  apart : (a : FileAnswer) → (number_of a ≡ 0 → ⊥) → a ≡ Ok tt → ⊥
   apart a h e = h (ap number_of e)
 
   of_contents : (a : FileAnswer) → file_answer (contents_tests l (length l)) ≡ a → (number_of a ≡ 0 → ⊥) → file_answer (file_tests l) ≡ a
   of_contents a e h =
-      in_front-refused (contents_tests l (length l)) ((eqb (bad_runs l) (count l), Runs (bad_runs l)) ∷ (eqb (bad_range l) (count l), Range (bad_range l)) ∷ []) (λ d. apart a h (sym e ∙ d))
+      in_front-refused (contents_tests l (length l)) ((eqb (bad_runs l) (count l), Err (Runs (bad_runs l))) ∷ (eqb (bad_range l) (count l), Err (Range (bad_range l))) ∷ []) (λ d. apart a h (sym e ∙ d))
       ∙ e
 
   of-entries : (a : FileAnswer) → Headed l → file_answer (entries_tests l (length l)) ≡ a → (number_of a ≡ 0 → ⊥) → file_answer (file_tests l) ≡ a
   of-entries a w e h = of_contents a (Checks.entries_there l (length l) w.head w.first w.few w.room ∙ e) h
 
-  pub right-done : Right l → file_answer (contents_tests l (length l)) ≡ Done
+  pub right-done : Right l → file_answer (contents_tests l (length l)) ≡ Ok tt
   right-done r =
       accepts l (length l)
       (record {
@@ -152,7 +152,7 @@ module _ (l : List ℕ) where
         end = r.end;
       })
 
-  pub done-right : file_answer (contents_tests l (length l)) ≡ Done → Right l
+  pub done-right : file_answer (contents_tests l (length l)) ≡ Ok tt → Right l
   done-right done =
       let w = accepted l (length l) done in
       record {
@@ -161,25 +161,25 @@ module _ (l : List ℕ) where
         end = w.end;
       }
 
-  of-runs : Right l → file_answer (file_tests l) ≡ file_answer ((eqb (bad_runs l) (count l), Runs (bad_runs l)) ∷ (eqb (bad_range l) (count l), Range (bad_range l)) ∷ [])
-  of-runs r = in_front-done (contents_tests l (length l)) ((eqb (bad_runs l) (count l), Runs (bad_runs l)) ∷ (eqb (bad_range l) (count l), Range (bad_range l)) ∷ []) refl (right-done r)
+  of-runs : Right l → file_answer (file_tests l) ≡ file_answer ((eqb (bad_runs l) (count l), Err (Runs (bad_runs l))) ∷ (eqb (bad_range l) (count l), Err (Range (bad_range l))) ∷ [])
+  of-runs r = in_front-done (contents_tests l (length l)) ((eqb (bad_runs l) (count l), Err (Runs (bad_runs l))) ∷ (eqb (bad_range l) (count l), Err (Range (bad_range l))) ∷ []) refl (right-done r)
 
-  of_ranges : Right l → GoodTo l (count l) → file_answer (file_tests l) ≡ file_answer ((eqb (bad_range l) (count l), Range (bad_range l)) ∷ [])
+  of_ranges : Right l → GoodTo l (count l) → file_answer (file_tests l) ≡ file_answer ((eqb (bad_range l) (count l), Err (Range (bad_range l))) ∷ [])
   of_ranges r good = of-runs r ∙ passed _ _ (eq-eqb (bad_runs l) (count l) (all_runs-found good))
 
   pub reason_gives : {a : FileAnswer} → Reason l a → file_answer (file_tests l) ≡ a
-  reason_gives (short_head h) = of_contents Cut (Checks.short_head l (length l) h) (λ e. omega arith)
-  reason_gives (other_edition h (inl o)) = of_contents Edition (Checks.other_edition l (length l) h o.0 o.1) (λ e. omega arith)
-  reason_gives (other_edition h (inr m)) = of_contents Edition (Checks.many_blocks l (length l) h m) (λ e. omega arith)
-  reason_gives (short_entries h f m s) = of_contents Cut (Checks.short_entries l (length l) h f m s) (λ e. omega arith)
+  reason_gives (short_head h) = of_contents (Err Cut) (Checks.short_head l (length l) h) (λ e. omega arith)
+  reason_gives (other_edition h (inl o)) = of_contents (Err Edition) (Checks.other_edition l (length l) h o.0 o.1) (λ e. omega arith)
+  reason_gives (other_edition h (inr m)) = of_contents (Err Edition) (Checks.many_blocks l (length l) h m) (λ e. omega arith)
+  reason_gives (short_entries h f m s) = of_contents (Err Cut) (Checks.short_entries l (length l) h f m s) (λ e. omega arith)
   reason_gives (of_bad_entry p w h bad before) =
       let found : bad_entry l ≡ p = entry_found p h bad before in
-      of-entries (BadEntry p) w (Checks.bad_entries l (length l) (omega arith) ∙ ap BadEntry found) (λ e. omega arith)
-  reason_gives (short_bodies w all s) = of-entries Cut w (Checks.short_bodies l (length l) (entries-found all) s) (λ e. omega arith)
-  reason_gives (left_over w all s) = of-entries Over w (Checks.left_over l (length l) (entries-found all) (omega arith) s) (λ e. omega arith)
+      of-entries (Err (BadEntry p)) w (Checks.bad_entries l (length l) (omega arith) ∙ ap (λ p. Err (BadEntry p)) found) (λ e. omega arith)
+  reason_gives (short_bodies w all s) = of-entries (Err Cut) w (Checks.short_bodies l (length l) (entries-found all) s) (λ e. omega arith)
+  reason_gives (left_over w all s) = of-entries (Err Over) w (Checks.left_over l (length l) (entries-found all) (omega arith) s) (λ e. omega arith)
   reason_gives (of_bad_runs p r h bad before) =
       let found : bad_runs l ≡ p = runs-found p h bad before in
-      of-runs r ∙ stopped _ _ (ne_eqb (bad_runs l) (count l) (λ e. omega arith)) ∙ ap Runs found
+      of-runs r ∙ stopped _ _ (ne_eqb (bad_runs l) (count l) (λ e. omega arith)) ∙ ap (λ p. Err (Runs p)) found
   reason_gives (of_bad_range p r good h bad before) =
       let found : bad_range l ≡ p = range-found p h bad before in
       of_ranges r good ∙ range_at l p (sym found) (λ e. omega arith)
@@ -192,12 +192,12 @@ module _ (l : List ℕ) where
   from_ranges r good =
       elim (dec_lt (bad_range l) (count l)) [
         | yes h ↦ (
-          Range (bad_range l),
+          Err (Range (bad_range l)),
           of_bad_range (bad_range l) r good h
               (at-fails (count l) (has_true_range l) (TrueRange l) range-plain h)
               (before-holds (count l) (has_true_range l) (TrueRange l) range-plain),
         )
-        | no h ↦ (Done, none r good (all_hold (count l) (has_true_range l) (TrueRange l) range-plain h))
+        | no h ↦ (Ok tt, none r good (all_hold (count l) (has_true_range l) (TrueRange l) range-plain h))
       ]
 
   from_runs : Right l → (a : FileAnswer) × Reason l a
@@ -205,7 +205,7 @@ module _ (l : List ℕ) where
   from_runs r =
       elim (dec_lt (bad_runs l) (count l)) [
         | yes h ↦ (
-          Runs (bad_runs l),
+          Err (Runs (bad_runs l)),
           of_bad_runs (bad_runs l) r h
               (at-fails (count l) (good_in l) (λ i. GoodRuns (entry_of l i) (body_of l i)) good-plain h)
               (before-holds (count l) (good_in l) (λ i. GoodRuns (entry_of l i) (body_of l i)) good-plain),
@@ -218,7 +218,7 @@ module _ (l : List ℕ) where
   from_entries w =
       elim (dec_lt (bad_entry l) (count l)) [
         | yes h ↦ (
-          BadEntry (bad_entry l),
+          Err (BadEntry (bad_entry l)),
           of_bad_entry (bad_entry l) w h
               (at-fails (count l) (is_right l) (EntryRight l) entry-plain h)
               (before-holds (count l) (is_right l) (EntryRight l) entry-plain),
@@ -229,9 +229,9 @@ module _ (l : List ℕ) where
       sizes : RightTo l (count l) → (a : FileAnswer) × Reason l a
       sizes all =
           elim (dec_lt (length l) (body_start l (count l))) [
-            | yes s ↦ (Cut, short_bodies w all s)
+            | yes s ↦ (Err Cut, short_bodies w all s)
             | no s ↦ elim (dec_lt (body_start l (count l)) (length l)) [
-              | yes m ↦ (Over, left_over w all m)
+              | yes m ↦ (Err Over, left_over w all m)
               | no m ↦ from_runs (record { headed = w; entries = all; end = omega arith })
             ]
           ]
@@ -239,16 +239,16 @@ module _ (l : List ℕ) where
   from_head : (a : FileAnswer) × Reason l a
   from_head =
       elim (dec_le 4 (length l)) [
-        | no h ↦ (Cut, short_head (omega arith))
+        | no h ↦ (Err Cut, short_head (omega arith))
         | yes h ↦ ⊎_elim
             (λ f. elim (dec_le (count l) 256) [
-              | no m ↦ (Edition, other_edition h (inr (omega arith)))
+              | no m ↦ (Err Edition, other_edition h (inr (omega arith)))
               | yes m ↦ elim (dec_le (contents_size (edition l) (count l)) (length l)) [
-                | no s ↦ (Cut, short_entries h f m (omega arith))
+                | no s ↦ (Err Cut, short_entries h f m (omega arith))
                 | yes s ↦ from_entries (record { head = h; first = f; few = m; room = s })
               ]
             ])
-            (λ o. (Edition, other_edition h (inl o)))
+            (λ o. (Err Edition, other_edition h (inl o)))
             (Checks.known_or_not (edition l))
       ]
 
@@ -260,29 +260,29 @@ module _ (l : List ℕ) where
   )
 
   -- In edition 2 no block has runs, so that 13 is never given.
-  pub second_runs : edition l ≡ 2 → (p : ℕ) → file_answer (file_tests l) ≡ Runs p → ⊥
-  second_runs second p e = go ((file_exactly (Runs p)).0 e)
+  pub second_runs : edition l ≡ 2 → (p : ℕ) → file_answer (file_tests l) ≡ Err (Runs p) → ⊥
+  second_runs second p e = go ((file_exactly (Err (Runs p))).0 e)
     where
-      go : Reason l (Runs p) → ⊥
+      go : Reason l (Err (Runs p)) → ⊥
       go (of_bad_runs p r h bad before) = bad (λ k. absurd (omega (arith, (r.entries p h).1.0 second)))
 
   -- ---- one block out, and the lookup of a row
 
   -- a file that is refused is refused in front of the last test, and a file that is right leaves it to that test
-  refused-front : (x : FileTest) (a : FileAnswer) → a ≢ Done → Reason l a → file_answer (file_tests l ++ (x ∷ [])) ≡ a
+  refused-front : (x : FileTest) (a : FileAnswer) → a ≢ Ok tt → Reason l a → file_answer (file_tests l ++ (x ∷ [])) ≡ a
   refused-front x a n r = in_front-refused (file_tests l) (x ∷ []) (λ d. n (sym (reason_gives r) ∙ d)) ∙ reason_gives r
 
-  right-front : (x : FileTest) → Reason l Done → file_answer (file_tests l ++ (x ∷ [])) ≡ file_answer (x ∷ [])
+  right-front : (x : FileTest) → Reason l (Ok tt) → file_answer (file_tests l ++ (x ∷ [])) ≡ file_answer (x ∷ [])
   right-front x r = in_front-done (file_tests l) (x ∷ []) refl (reason_gives r)
 
-  number_there : (n m : ℕ) → n < m → file_answer ((ltb n m, Beyond) ∷ []) ≡ Done
+  number_there : (n m : ℕ) → n < m → file_answer ((ltb n m, Err Beyond) ∷ []) ≡ Ok tt
   number_there n m h = passed _ _ (lt-ltb n m h) ∙ none_left
 
-  number-beyond : (n m : ℕ) → m ≤ n → file_answer ((ltb n m, Beyond) ∷ []) ≡ Beyond
+  number-beyond : (n m : ℕ) → m ≤ n → file_answer ((ltb n m, Err Beyond) ∷ []) ≡ Err Beyond
   number-beyond n m h = stopped _ _ (le-ltb n m h)
 
   -- whether a file is done
-  done_or_not : (a : FileAnswer) → (a ≡ Done) ⊎ (a ≢ Done)
+  done_or_not : (a : FileAnswer) → (a ≡ Ok tt) ⊎ (a ≢ Ok tt)
   done_or_not a =
       elim (ℕ_discrete (number_of a) 0) [
         | yes zero ↦ inl (number-done a zero)
@@ -291,17 +291,17 @@ module _ (l : List ℕ) where
 
   module _ (p : ℕ) where
     row_gives : {a : FileAnswer} → RowReason l p a → file_answer (row_tests l p) ≡ a
-    row_gives (of_file_row a n r) = refused-front ((ltb p (row_count l), Beyond)) a n r
-    row_gives (no_row r h) = right-front ((ltb p (row_count l), Beyond)) r ∙ number-beyond p (row_count l) h
-    row_gives (row_there r h) = right-front ((ltb p (row_count l), Beyond)) r ∙ number_there p (row_count l) h
+    row_gives (of_file_row a n r) = refused-front ((ltb p (row_count l), Err Beyond)) a n r
+    row_gives (no_row r h) = right-front ((ltb p (row_count l), Err Beyond)) r ∙ number-beyond p (row_count l) h
+    row_gives (row_there r h) = right-front ((ltb p (row_count l), Err Beyond)) r ∙ number_there p (row_count l) h
 
     from_row : (a : FileAnswer) × RowReason l p a
     from_row =
         ⊎_elim
-        (λ d. let r : Reason l Done = subst (Reason l) d from_head.1 in
+        (λ d. let r : Reason l (Ok tt) = subst (Reason l) d from_head.1 in
         elim (dec_lt p (row_count l)) [
-          | yes h ↦ (Done, row_there r h)
-          | no h ↦ (Beyond, no_row r (omega arith))
+          | yes h ↦ (Ok tt, row_there r h)
+          | no h ↦ (Err Beyond, no_row r (omega arith))
         ])
         (λ n. (from_head.0, of_file_row from_head.0 n from_head.1))
         (done_or_not from_head.0)
@@ -311,24 +311,24 @@ module _ (l : List ℕ) where
     row_exactly a = ((λ e. subst (RowReason l p) (sym (row_gives from_row.1) ∙ e) from_row.1), (λ r. row_gives r))
 
   module _ (b : ℕ) (output : List ℕ) where
-    sized : length output ≡ 1024 → file_answer (block_out_tests l b output) ≡ file_answer (file_tests l ++ ((ltb b (count l), Beyond) ∷ []))
+    sized : length output ≡ 1024 → file_answer (block_out_tests l b output) ≡ file_answer (file_tests l ++ ((ltb b (count l), Err Beyond) ∷ []))
     sized e = passed _ _ (eq-eqb (length output) 1024 e)
 
     block_gives : {a : FileAnswer} → BlockReason l b output a → file_answer (block_out_tests l b output) ≡ a
     block_gives (bad_output h) = stopped _ _ (ne_eqb (length output) 1024 h)
-    block_gives (of_file_block a e n r) = sized e ∙ refused-front ((ltb b (count l), Beyond)) a n r
-    block_gives (no_block e r h) = sized e ∙ right-front ((ltb b (count l), Beyond)) r ∙ number-beyond b (count l) h
-    block_gives (block_there e r h) = sized e ∙ right-front ((ltb b (count l), Beyond)) r ∙ number_there b (count l) h
+    block_gives (of_file_block a e n r) = sized e ∙ refused-front ((ltb b (count l), Err Beyond)) a n r
+    block_gives (no_block e r h) = sized e ∙ right-front ((ltb b (count l), Err Beyond)) r ∙ number-beyond b (count l) h
+    block_gives (block_there e r h) = sized e ∙ right-front ((ltb b (count l), Err Beyond)) r ∙ number_there b (count l) h
 
     from_block : (a : FileAnswer) × BlockReason l b output a
     from_block =
         elim (ℕ_discrete (length output) 1024) [
-          | no h ↦ (Block, bad_output h)
+          | no h ↦ (Err Block, bad_output h)
           | yes e ↦ ⊎_elim
-              (λ d. let r : Reason l Done = subst (Reason l) d from_head.1 in
+              (λ d. let r : Reason l (Ok tt) = subst (Reason l) d from_head.1 in
               elim (dec_lt b (count l)) [
-                | yes h ↦ (Done, block_there e r h)
-                | no h ↦ (Beyond, no_block e r (omega arith))
+                | yes h ↦ (Ok tt, block_there e r h)
+                | no h ↦ (Err Beyond, no_block e r (omega arith))
               ])
               (λ n. (from_head.0, of_file_block from_head.0 e n from_head.1))
               (done_or_not from_head.0)

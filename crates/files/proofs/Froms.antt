@@ -1,9 +1,10 @@
 -- In a file whose contents are right, what is asked of the body that begins where body i does is asked of body i, and
 -- its block is block i.
 -- Assumes nothing.
+use Rattle.std.specs.Prelude.{Ok, Err}
 use Rattle.std.proofs.Common.{◌≡◌, ℕ, ◌+◌, ◌<◌, true, List, [], length, take, drop, replicate, sym, refl, ap, ◌∙◌, ap₂, arith, eq-eqb, le-leb}
 use Rattle.lists.specs.Pick.{pick}
-use Rattle.contents.specs.declared.FileAnswer.TheVariants.{Done, Runs}
+use Rattle.contents.specs.declared.FileRefusal.TheVariants.{Runs}
 use Rattle.contents.specs.Answers.{file_answer, is_done}
 use Rattle.contents.specs.Contents.{edition, count, entry_or, range_of, range_or, body_start, contents_tests}
 use Rattle.bodies.specs.Bodies as Bodies
@@ -13,7 +14,7 @@ use Rattle.files.specs.Froms.{body_from, good_from, from_tests, from_leaves, tru
 use Rattle.bodywise.proofs.Told.{entry_read, range-read, body-ends}
 use Rattle.files.proofs.Files.{good_in, body-tested, block_tested, block_left, tested-done}
 
-module _ (l : List ℕ) (right : file_answer (contents_tests l (length l)) ≡ Done) (i : ℕ) (h : i < count l) (at : ℕ) (start : at ≡ body_start l i) where
+module _ (l : List ℕ) (right : file_answer (contents_tests l (length l)) ≡ Ok tt) (i : ℕ) (h : i < count l) (at : ℕ) (start : at ≡ body_start l i) where
   pub body_from-is : body_from l i at ≡ body_of l i
   unfolding body_from body_of
   body_from-is =
@@ -29,7 +30,7 @@ module _ (l : List ℕ) (right : file_answer (contents_tests l (length l)) ≡ D
       ∙ tested-done (good_in l i)
 
   module _ (output : List ℕ) (long : length output ≡ 1024) where
-    pub from_tested : file_answer (from_tests l i at output) ≡ pick (good_in l i) Done (Runs 0)
+    pub from_tested : file_answer (from_tests l i at output) ≡ pick (good_in l i) (Ok tt) (Err (Runs 0))
     from_tested =
         ap₂ (λ e b. file_answer (Bodies.block_tests e b output)) (entry_read l right i h) body_from-is
         ∙ block_tested l right i h output long

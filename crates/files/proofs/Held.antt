@@ -3,15 +3,15 @@
 -- the bodies come one after another: that is the same, since no file has both a run index out of range and a range that
 -- is not the true one.
 -- Assumes nothing.
+use Rattle.std.specs.Prelude.{Ok, Err}
 use Rattle.std.proofs.Common.{◌≡◌, ℕ, zero, suc, ◌<◌, ◌≤◌, Bool, true, false, eqb, List, [], ◌∷◌, length, sym, refl, ap, ◌∙◌, subst, ap₂, arith, eq-eqb, ne_eqb}
 use native.Mathlib.Decide.{dec_le, ℕ_discrete}
 use Rattle.lists.specs.Pick.{pick}
 use Rattle.lists.specs.Search.{first_bad}
 use Rattle.lists.proofs.Tests.{false-true}
 use Rattle.lists.proofs.Search.{first_only}
-use Rattle.contents.specs.declared.FileAnswer.{FileAnswer}
-use Rattle.contents.specs.declared.FileAnswer.TheVariants.{Done, Runs, Range}
-use Rattle.contents.specs.Answers.{file_answer, number_of, left}
+use Rattle.contents.specs.declared.FileRefusal.TheVariants.{Runs, Range}
+use Rattle.contents.specs.Answers.{FileAnswer, file_answer, number_of, left}
 use Rattle.contents.specs.Contents.{edition, count, entry_or, range_of, contents_tests}
 use Rattle.contents.proofs.Answers.{passed, stopped, none_left, in_front-done, in_front-refused, number-done}
 use Rattle.bodies.specs.Bodies as Bodies
@@ -43,7 +43,7 @@ picked_same false e = refl
 
 -- ---- one body, behind contents that are right
 
-module _ (l front : List ℕ) (held : Front l front) (done : file_answer (contents_tests l (length l)) ≡ Done) where
+module _ (l front : List ℕ) (held : Front l front) (done : file_answer (contents_tests l (length l)) ≡ Ok tt) where
   -- No file has both: a range that is not the true one is of edition 2, in which no block has run indices.
   range_second : (p : ℕ) → Files.has_true_range l p ≡ false → edition l ≡ 2
   unfolding Files.has_true_range
@@ -54,16 +54,16 @@ module _ (l front : List ℕ) (held : Front l front) (done : file_answer (conten
       ]
 
   module _ (n : ℕ) (h : n < count l) where
-    body-answer : {t : Bool} → good_in l n ≡ t → file_answer (body_tests front n (body_of l n)) ≡ pick t Done (Runs n)
+    body-answer : {t : Bool} → good_in l n ≡ t → file_answer (body_tests front n (body_of l n)) ≡ pick t (Ok tt) (Err (Runs n))
     body-answer {t} e =
         sym (body_placed front n (body_of l n) (held.right_is done n h))
         ∙ ap (in_block n)
         (ap (λ e. file_answer (Bodies.body_tests e (body_of l n))) (held.entry-is done n h)
         ∙ body-tested l done n h
-        ∙ ap (λ t. pick t Done (Runs 0)) e)
+        ∙ ap (λ t. pick t (Ok tt) (Err (Runs 0))) e)
         ∙ go t
       where
-        go : (t : Bool) → in_block n (pick t Done (Runs 0)) ≡ pick t Done (Runs n)
+        go : (t : Bool) → in_block n (pick t (Ok tt) (Err (Runs 0))) ≡ pick t (Ok tt) (Err (Runs n))
         go true = refl
         go false = refl
 
@@ -75,17 +75,17 @@ module _ (l front : List ℕ) (held : Front l front) (done : file_answer (conten
     unfolding has_true_range Files.has_true_range
     range-is = ap₂ (λ e r. pick (eqb e 2) (is_range r (block_in l n)) true) (held.edition-is done) (held.range-is done n h)
 
-    block_range : {t : Bool} → Files.has_true_range l n ≡ t → file_answer (range_tests front n (block_in l n)) ≡ pick t Done (Range n)
+    block_range : {t : Bool} → Files.has_true_range l n ≡ t → file_answer (range_tests front n (block_in l n)) ≡ pick t (Ok tt) (Err (Range n))
     block_range e = range-answer front n (block_in l n) (held.right_is done n h) (range-is ∙ e)
 
-    step_bad : good_in l n ≡ false → step_of Done front n (body_of l n) ≡ Runs n
+    step_bad : good_in l n ≡ false → step_of (Ok tt) front n (body_of l n) ≡ Err (Runs n)
     step_bad g =
         let answer = body-answer g in
-        step-body front n (body_of l n) Done refl (λ d. let w : ◌≡◌ {A = ℕ} 13 0 = ap number_of (sym answer ∙ d) in omega arith) ∙ answer
+        step-body front n (body_of l n) (Ok tt) refl (λ d. let w : ◌≡◌ {A = ℕ} 13 0 = ap number_of (sym answer ∙ d) in omega arith) ∙ answer
 
-    step_ranged : good_in l n ≡ true → {t : Bool} → Files.has_true_range l n ≡ t → step_of Done front n (body_of l n) ≡ pick t Done (Range n)
+    step_ranged : good_in l n ≡ true → {t : Bool} → Files.has_true_range l n ≡ t → step_of (Ok tt) front n (body_of l n) ≡ pick t (Ok tt) (Err (Range n))
     step_ranged g e =
-        step_range front n (body_of l n) Done refl (body-answer g) ∙ ap (λ b. file_answer (range_tests front n b)) block_is ∙ block_range e
+        step_range front n (body_of l n) (Ok tt) refl (body-answer g) ∙ ap (λ b. file_answer (range_tests front n b)) block_is ∙ block_range e
 
 -- ---- the bodies that are chosen
 
@@ -101,19 +101,19 @@ module _ (l front : List ℕ) (held : Front l front) (which : ℕ → Bool) wher
   ranged i = pick (which i) (Files.has_true_range l i) true
 
   -- A refusal of the contents stays.
-  pub chosen-refused : (file_answer (contents_tests l (length l)) ≡ Done → ⊥) → (n : ℕ) → after n ≡ file_answer (contents_tests l (length l))
+  pub chosen-refused : (file_answer (contents_tests l (length l)) ≡ Ok tt → ⊥) → (n : ℕ) → after n ≡ file_answer (contents_tests l (length l))
   unfolding chosen_after
   chosen-refused refused zero = held.answer
   chosen-refused refused (suc n) =
       let before = chosen-refused refused n in
       picked_same (which n) (step_settled front n (body_of l n) (after n) (λ z. refused (sym before ∙ number-done (after n) z))) ∙ before
 
-  module _ (done : file_answer (contents_tests l (length l)) ≡ Done) where
+  module _ (done : file_answer (contents_tests l (length l)) ≡ Ok tt) where
     -- What the answer after n bodies is, by what these bodies are.
     data Far (n : ℕ) : FileAnswer → Type 0 where
-      some_runs : (p : ℕ) → p < n → good p ≡ false → ((i : ℕ) → i < p → good i ≡ true) → Far n (Runs p)
-      some_range : (p : ℕ) → p < n → ranged p ≡ false → ((i : ℕ) → i < p → ranged i ≡ true) → Far n (Range p)
-      all_right : ((i : ℕ) → i < n → good i ≡ true) → ((i : ℕ) → i < n → ranged i ≡ true) → Far n Done
+      some_runs : (p : ℕ) → p < n → good p ≡ false → ((i : ℕ) → i < p → good i ≡ true) → Far n (Err (Runs p))
+      some_range : (p : ℕ) → p < n → ranged p ≡ false → ((i : ℕ) → i < p → ranged i ≡ true) → Far n (Err (Range p))
+      all_right : ((i : ℕ) → i < n → good i ≡ true) → ((i : ℕ) → i < n → ranged i ≡ true) → Far n (Ok tt)
 
     module _ (n : ℕ) (h : n < count l) where
       -- all below n, and n itself
@@ -126,21 +126,21 @@ module _ (l front : List ℕ) (held : Front l front) (which : ℕ → Bool) wher
 
       far_next : {a : FileAnswer} → Far n a → Far (suc n) (pick (which n) (step_of a front n (body_of l n)) a)
       far_next (some_runs p b g before) =
-          subst (Far (suc n)) (sym (picked_same (which n) (step_settled front n (body_of l n) (Runs p) (λ z. let w : ◌≡◌ {A = ℕ} 13 0 = z in omega arith)))) (some_runs p (omega arith) g before)
+          subst (Far (suc n)) (sym (picked_same (which n) (step_settled front n (body_of l n) (Err (Runs p)) (λ z. let w : ◌≡◌ {A = ℕ} 13 0 = z in omega arith)))) (some_runs p (omega arith) g before)
       far_next (some_range p b t before) =
-          subst (Far (suc n)) (sym (picked_same (which n) (step_settled front n (body_of l n) (Range p) (λ z. let w : ◌≡◌ {A = ℕ} 15 0 = z in omega arith)))) (some_range p (omega arith) t before)
+          subst (Far (suc n)) (sym (picked_same (which n) (step_settled front n (body_of l n) (Err (Range p)) (λ z. let w : ◌≡◌ {A = ℕ} 15 0 = z in omega arith)))) (some_range p (omega arith) t before)
       far_next (all_right goods ranges) = go (which n) (good_in l n) (Files.has_true_range l n) refl refl refl
         where
           -- a test of body n, where it is chosen
           tested : {w t : Bool} (x : Bool) → which n ≡ w → x ≡ t → pick (which n) x true ≡ pick w t true
           tested x c e = ap₂ (λ w t. pick w t true) c e
 
-          stepped : {w : Bool} {a : FileAnswer} → which n ≡ w → step_of Done front n (body_of l n) ≡ a
-              → pick (which n) (step_of Done front n (body_of l n)) Done ≡ pick w a Done
-          stepped c e = ap₂ (λ w a. pick w a Done) c e
+          stepped : {w : Bool} {a : FileAnswer} → which n ≡ w → step_of (Ok tt) front n (body_of l n) ≡ a
+              → pick (which n) (step_of (Ok tt) front n (body_of l n)) (Ok tt) ≡ pick w a (Ok tt)
+          stepped c e = ap₂ (λ w a. pick w a (Ok tt)) c e
 
           go : (w g t : Bool) → which n ≡ w → good_in l n ≡ g → Files.has_true_range l n ≡ t
-              → Far (suc n) (pick (which n) (step_of Done front n (body_of l n)) Done)
+              → Far (suc n) (pick (which n) (step_of (Ok tt) front n (body_of l n)) (Ok tt))
           go false g t c e f =
               subst (Far (suc n)) (sym (stepped c refl))
               (all_right (one_more goods (tested (good_in l n) c refl)) (one_more ranges (tested (Files.has_true_range l n) c refl)))
@@ -161,7 +161,7 @@ module _ (l front : List ℕ) (held : Front l front) (which : ℕ → Bool) wher
 
     -- what the tests of all run indices, and then of all ranges, say
     abbrev told : FileAnswer
-    told = file_answer ((eqb (first_bad (count l) good) (count l), Runs (first_bad (count l) good)) ∷ (eqb (first_bad (count l) ranged) (count l), Range (first_bad (count l) ranged)) ∷ [])
+    told = file_answer ((eqb (first_bad (count l) good) (count l), Err (Runs (first_bad (count l) good))) ∷ (eqb (first_bad (count l) ranged) (count l), Err (Range (first_bad (count l) ranged))) ∷ [])
 
     all_good : ((i : ℕ) → i < count l → good i ≡ true) → first_bad (count l) good ≡ count l
     all_good goods = sym (first_only (count l) (count l) good (omega arith) goods (λ b. absurd (omega arith)))
@@ -169,13 +169,13 @@ module _ (l front : List ℕ) (held : Front l front) (which : ℕ → Bool) wher
     far_all : {a : FileAnswer} → Far (count l) a → a ≡ told
     far_all (some_runs p b g before) =
         let found : p ≡ first_bad (count l) good = first_only (count l) p good (omega arith) before (λ _. g) in
-        sym (stopped _ _ (ne_eqb (first_bad (count l) good) (count l) (λ e. omega arith)) ∙ ap Runs (sym found))
+        sym (stopped _ _ (ne_eqb (first_bad (count l) good) (count l) (λ e. omega arith)) ∙ ap (λ p. Err (Runs p)) (sym found))
     far_all (some_range p b t before) =
         let found : p ≡ first_bad (count l) ranged = first_only (count l) p ranged (omega arith) before (λ _. t) in
         let second = range_second l front held done p (picked_false (which p) t) in
         sym (passed _ _ (eq-eqb (first_bad (count l) good) (count l) (all_good (λ i h. picked_true (which i) (second_good l done second i h))))
         ∙ stopped _ _ (ne_eqb (first_bad (count l) ranged) (count l) (λ e. omega arith))
-        ∙ ap Range (sym found))
+        ∙ ap (λ p. Err (Range p)) (sym found))
     far_all (all_right goods ranges) =
         let none : count l ≡ first_bad (count l) ranged = first_only (count l) (count l) ranged (omega arith) ranges (λ b. absurd (omega arith)) in
         sym (passed _ _ (eq-eqb (first_bad (count l) good) (count l) (all_good goods))
@@ -203,16 +203,16 @@ module _ (l front : List ℕ) (held : Front l front) where
       ∙ elim (ℕ_discrete (number_of (file_answer (contents_tests l (length l)))) 0) [
         | yes z ↦ let done = number-done (file_answer (contents_tests l (length l))) z in
             chosen-bodies l front held (λ _. true) done ∙ sym (in_front-done (contents_tests l (length l)) _ refl done)
-        | no n ↦ let refused : file_answer (contents_tests l (length l)) ≡ Done → ⊥ = λ d. n (ap number_of d) in
+        | no n ↦ let refused : file_answer (contents_tests l (length l)) ≡ Ok tt → ⊥ = λ d. n (ap number_of d) in
             chosen-refused l front held (λ _. true) refused (count l) ∙ sym (in_front-refused (contents_tests l (length l)) _ refused)
       ]
 
   -- In a file that was accepted each block is laid down when its body is read again, and its range is the true one.
-  module _ (accepted : file_answer (file_tests l) ≡ Done) (i : ℕ) (h : i < count l) where
-    right : file_answer (contents_tests l (length l)) ≡ Done
+  module _ (accepted : file_answer (file_tests l) ≡ Ok tt) (i : ℕ) (h : i < count l) where
+    right : file_answer (contents_tests l (length l)) ≡ Ok tt
     right = contents-right l (file-runs l accepted)
 
-    pub again-answer : (output : List ℕ) → length output ≡ 1024 → file_answer (held_tests front i (body_of l i) output) ≡ Done
+    pub again-answer : (output : List ℕ) → length output ≡ 1024 → file_answer (held_tests front i (body_of l i) output) ≡ Ok tt
     again-answer output e =
         passed _ _ (eq-eqb (length output) 1024 e) ∙ body-answer l front held right i h (runs-good l (file-runs l accepted) i h)
 
@@ -221,7 +221,7 @@ module _ (l front : List ℕ) (held : Front l front) where
     again_block output e =
         ap (λ a. left a (block_of (entry_or front i) (body_of l i)) output) (again-answer output e) ∙ block_is l front held right i h
 
-    pub again-range : file_answer (range_tests front i (block_in l i)) ≡ Done
+    pub again-range : file_answer (range_tests front i (block_in l i)) ≡ Ok tt
     again-range = block_range l front held right i h (ranges_true l accepted i h)
 
 -- A program that reads the front of a file, and then each body, gets the answer to the whole file.

@@ -1,13 +1,14 @@
 -- The search for a bad block that leaves one block out: what it tells of the search that leaves none out, and of the
 -- answer to the file.
 -- Assumes nothing.
+use Rattle.std.specs.Prelude.{Ok, Err}
 use Rattle.std.proofs.Common.{◌≡◌, ℕ, ◌<◌, ◌≤◌, Bool, true, false, eqb, List, [], ◌∷◌, length, sym, refl, ap, ◌∙◌, arith, ne_eqb}
 use native.Mathlib.Decide.{ℕ_discrete}
 use Rattle.lists.specs.Pick.{either}
 use Rattle.lists.specs.Search.{first_bad}
 use Rattle.lists.proofs.Tests.{false-true}
 use Rattle.lists.proofs.Search.{first_only, first_le, first-before, first-at}
-use Rattle.contents.specs.declared.FileAnswer.TheVariants.{Done, Runs}
+use Rattle.contents.specs.declared.FileRefusal.TheVariants.{Runs}
 use Rattle.contents.specs.Answers.{file_answer}
 use Rattle.contents.specs.Contents.{count, contents_tests}
 use Rattle.contents.proofs.Answers.{stopped, in_front-done}
@@ -61,28 +62,28 @@ none_but l b all =
 pub but_le : (l : List ℕ) (b : ℕ) → bad_but l b ≤ count l
 but_le l b = first_le (count l) (λ i. either (eqb i b) (good_in l i))
 
-module _ (l : List ℕ) (right : file_answer (contents_tests l (length l)) ≡ Done) where
+module _ (l : List ℕ) (right : file_answer (contents_tests l (length l)) ≡ Ok tt) where
   -- behind right contents the lowest bad block decides
-  runs-at : (p : ℕ) → p ≡ bad_runs l → p < count l → file_answer (runs_tests l) ≡ Runs p
+  runs-at : (p : ℕ) → p ≡ bad_runs l → p < count l → file_answer (runs_tests l) ≡ Err (Runs p)
   runs-at p found h =
-      in_front-done (contents_tests l (length l)) ((eqb (bad_runs l) (count l), Runs (bad_runs l)) ∷ []) refl right
+      in_front-done (contents_tests l (length l)) ((eqb (bad_runs l) (count l), Err (Runs (bad_runs l))) ∷ []) refl right
       ∙ stopped _ _ (ne_eqb (bad_runs l) (count l) (λ e. omega arith))
-      ∙ ap Runs (sym found)
+      ∙ ap (λ p. Err (Runs p)) (sym found)
 
   module _ (b bad : ℕ) (found : bad ≡ bad_but l b) where
     -- Of the other blocks the lowest bad one is reported, where block b is behind it or good;
-    pub other_bad : bad < count l → (b < bad → good_in l b ≡ true) → file_answer (runs_tests l) ≡ Runs bad
+    pub other_bad : bad < count l → (b < bad → good_in l b ≡ true) → file_answer (runs_tests l) ≡ Err (Runs bad)
     unfolding bad_runs
     other_bad h good = runs-at bad (found ∙ first_others (count l) b (good_in l) (λ k. good (omega arith))) h
 
     -- block b is, where it is bad and not behind that one;
-    pub asked_bad : b ≤ bad → b < count l → good_in l b ≡ false → file_answer (runs_tests l) ≡ Runs b
+    pub asked_bad : b ≤ bad → b < count l → good_in l b ≡ false → file_answer (runs_tests l) ≡ Err (Runs b)
     unfolding bad_runs
     asked_bad low h worse = runs-at b (first-left-out (count l) b (good_in l) (omega arith) h worse) h
 
   -- and where no block is bad, the file is right up to there.
-  pub none_bad : (b : ℕ) → bad_but l b ≡ count l → (b < count l → good_in l b ≡ true) → file_answer (runs_tests l) ≡ Done
+  pub none_bad : (b : ℕ) → bad_but l b ≡ count l → (b < count l → good_in l b ≡ true) → file_answer (runs_tests l) ≡ Ok tt
   none_bad b none good =
       let found : first_bad (count l) (good_in l) ≡ count l = sym (first_others (count l) b (good_in l) (λ h. good (omega arith))) ∙ none in
-      in_front-done (contents_tests l (length l)) ((eqb (bad_runs l) (count l), Runs (bad_runs l)) ∷ []) refl right
+      in_front-done (contents_tests l (length l)) ((eqb (bad_runs l) (count l), Err (Runs (bad_runs l))) ∷ []) refl right
       ∙ no_bad_runs l (λ k h. first-before (count l) (good_in l) k (omega arith))

@@ -1,15 +1,16 @@
 -- The lookup of a row in one body, test by test, and what it gives in a file whose contents are right.
 -- Assumes nothing.
+use Rattle.std.specs.Prelude.{Ok, Err, is_err}
 use Rattle.std.proofs.Common.{◌≡◌, ℕ, suc, ◌+◌, ◌-◌, ◌/◌, ◌%◌, ◌<◌, ◌≤◌, Bool, true, false, leb, List, [], ◌∷◌, length, get_or, take, drop, sym, refl, ap, ◌∙◌, ap₂, arith, le-ltb, lt-ltb, eq-eqb, ne_eqb, le-leb}
 use native.Mathlib.Nat.{add-sub_cancel_left}
 use native.Mathlib.Decide.{dec_le}
 use Rattle.lists.specs.Pick.{pick, both}
+use Rattle.lists.proofs.Tests.{false-true}
 use Rattle.places.specs.Sizes.{t64}
 use Rattle.access.specs.Counts.{count_at}
 use Rattle.contents.specs.declared.Entry.{Entry}
-use Rattle.contents.specs.declared.FileAnswer.{FileAnswer}
-use Rattle.contents.specs.declared.FileAnswer.TheVariants.{Done, Cut, BadEntry, Beyond, Runs}
-use Rattle.contents.specs.Answers.{file_answer, number_of, is_done}
+use Rattle.contents.specs.declared.FileRefusal.TheVariants.{Cut, BadEntry, Beyond, Runs}
+use Rattle.contents.specs.Answers.{FileAnswer, file_answer, giving}
 use Rattle.contents.specs.Contents.{edition, edition_or, count, contents_size, entry_of, entry_or, range_of, range_or, is_laid_out, is_of_kind, is_taken_in, is_ordered, is_right, has_right_entry, body_start, contents_tests}
 use Rattle.contents.proofs.Answers.{passed, stopped, none_left}
 use Rattle.contents.proofs.Entries.{entry_there, entry_missing, range_there, right_there, right_missing, edition_there}
@@ -17,28 +18,27 @@ use Rattle.bodies.specs.Bodies.{block_of, has_good_runs}
 use Rattle.bodywise.proofs.Fronts.{whole-front}
 use Rattle.bodywise.proofs.Told.{entry_read, body-ends}
 use Rattle.files.specs.declared.Row.{Row}
-use Rattle.files.specs.declared.Row.TheVariants.{Counted, Uncounted, Refused}
 use Rattle.files.specs.Files.{block_in}
 use Rattle.files.specs.Froms.{body_from}
-use Rattle.files.specs.Rows.{given, row_from_tests, row_from_lem}
+use Rattle.files.specs.Rows.{counted, uncounted, given, row_from_tests, row_from_lem}
 use Rattle.files.proofs.Files.{good_in}
 use Rattle.files.proofs.Froms.{body_from-is}
 
 -- A value of kind 0 or 1 is given with its count, and one of kind 2 or 3 without.
-pub given_counted : (e : Entry) (place v : ℕ) → e.kind < 2 → given e place v ≡ Counted v (count_at t64 e.width place)
-given_counted e place v k = ap (λ b. pick b (Counted v (count_at t64 e.width place)) (Uncounted v)) (lt-ltb e.kind 2 k)
+pub given_counted : (e : Entry) (place v : ℕ) → e.kind < 2 → given e place v ≡ counted v (count_at t64 e.width place)
+given_counted e place v k = ap (λ b. pick b (counted v (count_at t64 e.width place)) (uncounted v)) (lt-ltb e.kind 2 k)
 
-pub given_uncounted : (e : Entry) (place v : ℕ) → 2 ≤ e.kind → given e place v ≡ Uncounted v
-given_uncounted e place v k = ap (λ b. pick b (Counted v (count_at t64 e.width place)) (Uncounted v)) (le-ltb e.kind 2 k)
+pub given_uncounted : (e : Entry) (place v : ℕ) → 2 ≤ e.kind → given e place v ≡ uncounted v
+given_uncounted e place v k = ap (λ b. pick b (counted v (count_at t64 e.width place)) (uncounted v)) (le-ltb e.kind 2 k)
 
 -- What the answer to one body, of which only the run indices are left to test, tells of them.
-pub runs_wrong : (b : Bool) {a : FileAnswer} → a ≡ pick b Done (Runs 0) → (number_of a ≡ 0 → ⊥) → b ≡ false
-runs_wrong true e refused = absurd (refused (ap number_of e))
+pub runs_wrong : (b : Bool) {a : FileAnswer} → a ≡ pick b (Ok tt) (Err (Runs 0)) → is_err a ≡ true → b ≡ false
+runs_wrong true e refused = absurd (false-true (sym (ap is_err e) ∙ refused))
 runs_wrong false e refused = refl
 
-pub runs-right : (b : Bool) {a : FileAnswer} → a ≡ pick b Done (Runs 0) → number_of a ≡ 0 → b ≡ true
+pub runs-right : (b : Bool) {a : FileAnswer} → a ≡ pick b (Ok tt) (Err (Runs 0)) → is_err a ≡ false → b ≡ true
 runs-right true e done = refl
-runs-right false e done = absurd (omega (arith, ap number_of e))
+runs-right false e done = absurd (false-true (sym done ∙ ap is_err e))
 
 four_first : (edition n : ℕ) → 4 ≤ contents_size edition n
 unfolding contents_size
@@ -65,17 +65,17 @@ module _ (l : List ℕ) (i at p : ℕ) where
   found : Row
   found = given (entry_or l i) (p % 1024) (get_or (block_of (entry_or l i) (body_from l i at)) (p % 1024) 0)
 
-  looked : {a : FileAnswer} → file_answer (row_from_tests l i at p) ≡ a → row_from_lem l i at p ≡ pick (is_done a) found (Refused a)
+  looked : {a : FileAnswer} → file_answer (row_from_tests l i at p) ≡ a → row_from_lem l i at p ≡ giving a found
   unfolding row_from_lem found
-  looked e = ap (λ a. pick (is_done a) found (Refused a)) e
+  looked e = ap (λ a. giving a found) e
 
   -- The body does not stand whole in the bytes.
-  pub from_cut : leb (at + (entry_or l i).length) (length l) ≡ false → row_from_lem l i at p ≡ Refused Cut
+  pub from_cut : leb (at + (entry_or l i).length) (length l) ≡ false → row_from_lem l i at p ≡ Err Cut
   from_cut f = looked (stopped _ _ f)
 
   module _ (whole : leb (at + (entry_or l i).length) (length l) ≡ true) where
     -- The entry is not right.
-    pub from_wrong : has_right_entry l i ≡ false → row_from_lem l i at p ≡ Refused (BadEntry i)
+    pub from_wrong : has_right_entry l i ≡ false → row_from_lem l i at p ≡ Err (BadEntry i)
     from_wrong f = looked (passed _ _ whole ∙ stopped _ _ f)
 
     -- The body that is lent is the one of the tests.
@@ -87,34 +87,34 @@ module _ (l : List ℕ) (i at p : ℕ) where
 
     module _ (right : has_right_entry l i ≡ true) where
       -- The row is not of that block.
-      pub from_beyond : (p / 1024 ≡ i → ⊥) → row_from_lem l i at p ≡ Refused Beyond
+      pub from_beyond : (p / 1024 ≡ i → ⊥) → row_from_lem l i at p ≡ Err Beyond
       from_beyond f = looked (passed _ _ whole ∙ passed _ _ right ∙ stopped _ _ (ne_eqb (p / 1024) i f))
 
       -- The run indices decide.
       pub from_runs : p / 1024 ≡ i
           → row_from_lem l i at p
           ≡ pick (has_good_runs (entry_or l i) (body_from l i at))
-          (given (entry_or l i) (p % 1024) (get_or (block_of (entry_or l i) (body_from l i at)) (p % 1024) 0)) (Refused (Runs i))
+          (Ok (given (entry_or l i) (p % 1024) (get_or (block_of (entry_or l i) (body_from l i at)) (p % 1024) 0))) (Err (Runs i))
       unfolding found
       from_runs e =
           looked (passed _ _ whole ∙ passed _ _ right ∙ passed _ _ (eq-eqb (p / 1024) i e) ∙ last (has_good_runs (entry_or l i) (body_from l i at)))
           ∙ go (has_good_runs (entry_or l i) (body_from l i at))
         where
-          last : (b : Bool) → file_answer ((b, Runs i) ∷ []) ≡ pick b Done (Runs i)
+          last : (b : Bool) → file_answer ((b, Err (Runs i)) ∷ []) ≡ pick b (Ok tt) (Err (Runs i))
           last true = passed _ _ refl ∙ none_left
           last false = stopped _ _ refl
 
-          go : (b : Bool) → pick (is_done (pick b Done (Runs i))) found (Refused (pick b Done (Runs i))) ≡ pick b found (Refused (Runs i))
+          go : (b : Bool) → giving (pick b (Ok tt) (Err (Runs i))) found ≡ pick b (Ok found) (Err (Runs i))
           go true = refl
           go false = refl
 
 -- In a file whose contents are right, a row of block i is looked up in body i.
-pub from_file : (l : List ℕ) (right : file_answer (contents_tests l (length l)) ≡ Done) (i at p : ℕ) → i < count l → at ≡ body_start l i → p / 1024 ≡ i
-    → row_from_lem l i at p ≡ pick (good_in l i) (given (entry_of l i) (p % 1024) (get_or (block_in l i) (p % 1024) 0)) (Refused (Runs i))
+pub from_file : (l : List ℕ) (right : file_answer (contents_tests l (length l)) ≡ Ok tt) (i at p : ℕ) → i < count l → at ≡ body_start l i → p / 1024 ≡ i
+    → row_from_lem l i at p ≡ pick (good_in l i) (Ok (given (entry_of l i) (p % 1024) (get_or (block_in l i) (p % 1024) 0))) (Err (Runs i))
 unfolding block_in
 from_file l right i at p h start e =
     let entry = entry_read l right i h in
     let ends : at + (entry_or l i).length ≤ length l = omega (arith, body-ends l right i h, ap (λ e. e.length) entry) in
     from_runs l i at p (le-leb _ _ ends) ((whole-front l).right_is right i h) e
-    ∙ ap₂ (λ e body. pick (has_good_runs e body) (given e (p % 1024) (get_or (block_of e body) (p % 1024) 0)) (Refused (Runs i)))
+    ∙ ap₂ (λ e body. pick (has_good_runs e body) (Ok (given e (p % 1024) (get_or (block_of e body) (p % 1024) 0))) (Err (Runs i)))
     entry (body_from-is l right i h at start)

@@ -2,6 +2,7 @@
 -- block p / 1,024, and the lookup of a row gives what one block out leaves at that place. Then the two worked files of
 -- R88, in edition 1.
 -- Assumes nothing.
+use Rattle.std.specs.Prelude.{Result, Ok, Err}
 use Rattle.std.proofs.Common.{◌≡◌, ℕ, ◌+◌, ◌*◌, ◌/◌, ◌%◌, ◌^◌, ◌<◌, ◌≤◌, Bool, true, false, ltb, List, [], ◌∷◌, length, get_or, sym, refl, ap, ◌∙◌, subst, ap₂, arith, le-ltb, lt-ltb}
 use Rattle.lists.specs.Pick.{pick}
 use Rattle.lists.specs.Numbers.{plus, Elements}
@@ -15,8 +16,8 @@ use Rattle.places.specs.declared.Answer.TheVariants.{Done as NoRefusal}
 use Rattle.places.specs.Sizes.{t64}
 use Rattle.packing.specs.Packed.{value_at}
 use Rattle.packing.proofs.Rounds.{value-zero}
-use Rattle.access.specs.declared.t64.Single.{Single}
-use Rattle.access.specs.t64 as single
+use Rattle.access.specs.declared.Single.{Single}
+use Rattle.access.specs.Singles as single
 use Rattle.access.specs.Calls.{single, single_of}
 use Rattle.access.specs.Counts.{count_at, words_at}
 use Rattle.access.proofs.Answers.{index_in, single-good}
@@ -24,17 +25,16 @@ use Rattle.access.proofs.Counts.{a_place}
 use Rattle.deltas.specs.Deltas.{unfor_pack_of}
 use Rattle.little.specs.Little.{little}
 use Rattle.contents.specs.declared.Entry.{Entry}
-use Rattle.contents.specs.declared.FileAnswer.TheVariants.{Done}
-use Rattle.contents.specs.Answers.{file_answer, is_done, left}
-use Rattle.contents.proofs.Answers.{says_answer}
+use Rattle.contents.specs.declared.FileRefusal.{FileRefusal}
+use Rattle.contents.specs.Answers.{FileAnswer, answer_of, giving, file_answer, left}
+use Rattle.contents.proofs.Answers.{says_answer, left-err}
 use Rattle.contents.specs.Contents.{count, entry_size, contents_size, entry_of, range_of, is_of_kind, is_laid_out, is_right, bad_entry, bodies_size, body_start}
 use Rattle.bodies.specs.Bodies.{packed_from, block_of, has_good_runs}
 use Rattle.bodies.proofs.Blocks.{packed_value}
 use Rattle.bodies.proofs.Bodies.{length-numbers, laid_plain}
 use Rattle.files.specs.declared.Row.{Row}
-use Rattle.files.specs.declared.Row.TheVariants.{Counted, Uncounted, Refused}
 use Rattle.files.specs.Files.{body_of, bad_runs, has_true_range, bad_range, block_in, row_count, row_at, rows_of, file_tests, row_tests, block_out_leaves}
-use Rattle.files.specs.Rows.{answer_of, value_of, given, row_of}
+use Rattle.files.specs.Rows.{counted, uncounted, value_of, given, row_of}
 use Rattle.files.proofs.Calls.{row-as_block, row_laid, row_done, block_done}
 use Rattle.files.proofs.Ranges.{file_block}
 
@@ -62,19 +62,19 @@ module _ (l : List ℕ) where
       ∙ tab_get_d (block_in l i) 0 1024 long
 
   -- and in an accepted file of bytes every row is a number of 64 bits.
-  pub rows_fit : Elements 8 l → file_answer (file_tests l) ≡ Done → Elements t64 (rows_of l)
+  pub rows_fit : Elements 8 l → file_answer (file_tests l) ≡ Ok tt → Elements t64 (rows_of l)
   rows_fit bytes done =
       elements-of t64 (1024 * count l) (rows_of l) rows-count
       (λ p h. subst (λ v. v < 2 ^ t64) (sym (row-place p h)) ((file_block l bytes done (p / 1024) (omega arith)).1 (p % 1024)))
 
   -- In an accepted file the lookup of a row gives that row, which is what one block out leaves at its place.
-  pub row_block : file_answer (file_tests l) ≡ Done → (p : ℕ) → p < 1024 * count l → (output : List ℕ) → length output ≡ 1024
-      → (row_of l p ≡ given (entry_of l (p / 1024)) (p % 1024) (get_or (rows_of l) p 0))
-      × (row_of l p ≡ given (entry_of l (p / 1024)) (p % 1024) (get_or (block_out_leaves l (p / 1024) output) (p % 1024) 0))
+  pub row_block : file_answer (file_tests l) ≡ Ok tt → (p : ℕ) → p < 1024 * count l → (output : List ℕ) → length output ≡ 1024
+      → (row_of l p ≡ Ok (given (entry_of l (p / 1024)) (p % 1024) (get_or (rows_of l) p 0)))
+      × (row_of l p ≡ Ok (given (entry_of l (p / 1024)) (p % 1024) (get_or (block_out_leaves l (p / 1024) output) (p % 1024) 0)))
   unfolding block_out_leaves row_at
   row_block done p h output e =
       let out = block_done l (p / 1024) output e done (omega arith) in
-      let given-as = given (entry_of l (p / 1024)) (p % 1024) in
+      let given-as : ℕ → Result Row FileRefusal = λ v. Ok (given (entry_of l (p / 1024)) (p % 1024) v) in
       let looked : row_of l p ≡ given-as (get_or (block_in l (p / 1024)) (p % 1024) 0) = row_done l p (row-as_block l p output e ∙ out) in (
         looked ∙ ap given-as (sym (row-place p h)),
         looked ∙ ap (λ a. given-as (get_or (left a (block_in l (p / 1024)) output) (p % 1024) 0)) (sym out),
@@ -82,20 +82,12 @@ module _ (l : List ℕ) where
 
 -- What is read off the lookup of a row: the answer is that of its tests, and the value is the row where it is done, and
 -- else 0.
-module _ (e : Entry) (place v : ℕ) where
-  given-done : answer_of (given e place v) ≡ Done
-  given-done = go (ltb e.kind 2)
-    where
-      go : (b : Bool) → answer_of (pick b (Counted v (count_at t64 e.width place)) (Uncounted v)) ≡ Done
-      go true = refl
-      go false = refl
-
-  given-value : value_of (given e place v) ≡ v
-  given-value = go (ltb e.kind 2)
-    where
-      go : (b : Bool) → value_of (pick b (Counted v (count_at t64 e.width place)) (Uncounted v)) ≡ v
-      go true = refl
-      go false = refl
+given-value : (e : Entry) (place v : ℕ) → (given e place v).value ≡ v
+given-value e place v = go (ltb e.kind 2)
+  where
+    go : (b : Bool) → (pick b (counted v (count_at t64 e.width place)) (uncounted v)).value ≡ v
+    go true = refl
+    go false = refl
 
 module _ (l : List ℕ) (p : ℕ) where
   found : Row
@@ -103,18 +95,18 @@ module _ (l : List ℕ) (p : ℕ) where
 
   pub row_answers : answer_of (row_of l p) ≡ file_answer (row_tests l p)
   unfolding row_of found
-  row_answers = says_answer answer_of found Refused (given-done (entry_of l (p / 1024)) (p % 1024) (row_at l p)) (λ _. refl) (file_answer (row_tests l p))
+  row_answers = says_answer (file_answer (row_tests l p)) found
 
   pub row_values : value_of (row_of l p) ≡ left (file_answer (row_tests l p)) (row_at l p) 0
   unfolding row_of found
-  row_values = go (is_done (file_answer (row_tests l p)))
+  row_values = go (file_answer (row_tests l p))
     where
-      go : (b : Bool) → value_of (pick b found (Refused (file_answer (row_tests l p)))) ≡ pick b (row_at l p) 0
-      go true = given-value (entry_of l (p / 1024)) (p % 1024) (row_at l p)
-      go false = refl
+      go : (a : FileAnswer) → value_of (giving a found) ≡ left a (row_at l p) 0
+      go (Ok _) = given-value (entry_of l (p / 1024)) (p % 1024) (row_at l p)
+      go (Err r) = sym (left-err r (row_at l p) 0)
 
 -- A row that is there has a count where its block is of kind 0 or 1, and none where it is of kind 2 or 3.
-module _ (l : List ℕ) (p : ℕ) (done : file_answer (row_tests l p) ≡ Done) where
+module _ (l : List ℕ) (p : ℕ) (done : file_answer (row_tests l p) ≡ Ok tt) where
   -- its entry, the width of a packed block or of a frame, and the words of its body
   e : Entry
   e = entry_of l (p / 1024)
@@ -122,23 +114,23 @@ module _ (l : List ℕ) (p : ℕ) (done : file_answer (row_tests l p) ≡ Done) 
   pub words : List ℕ
   words = packed_from (body_of l (p / 1024)) 0 (entry_of l (p / 1024)).width
 
-  counted : e.kind < 2 → row_of l p ≡ Counted (row_at l p) (count_at t64 e.width (p % 1024))
+  with-count : e.kind < 2 → row_of l p ≡ Ok (counted (row_at l p) (count_at t64 e.width (p % 1024)))
   unfolding e
-  counted kind = row_done l p done ∙ rw (lt-ltb (entry_of l (p / 1024)).kind 2 kind)
+  with-count kind = row_done l p done ∙ rw (lt-ltb (entry_of l (p / 1024)).kind 2 kind)
 
   -- The count is what `words_at` says.
-  pub row-counted : (entry_of l (p / 1024)).kind < 2 → row_of l p ≡ Counted (row_at l p) (words_at t64 (entry_of l (p / 1024)).width (p % 1024))
+  pub row-counted : (entry_of l (p / 1024)).kind < 2 → row_of l p ≡ Ok (counted (row_at l p) (words_at t64 (entry_of l (p / 1024)).width (p % 1024)))
   unfolding e
   row-counted kind =
-      counted kind
-      ∙ ap (Counted (row_at l p)) (a_place t64 e.width (p % 1024) (laid_plain e (row_laid l p done) kind).0 (omega arith))
+      with-count kind
+      ∙ ap (λ n. Ok (counted (row_at l p) n)) (a_place t64 e.width (p % 1024) (laid_plain e (row_laid l p done) kind).0 (omega arith))
 
   -- Value and count are those of single access at the row's place in the words of its body, and the reference is added
   -- to the value.
   pub row-single : (entry_of l (p / 1024)).kind < 2
-      → (found : Single) → found ≡ single_of Single.Value Single.Refused t64 (entry_of l (p / 1024)).width words (p % 1024)
+      → (found : Single ℕ) → found ≡ single_of Single.Value Single.Refused t64 (entry_of l (p / 1024)).width words (p % 1024)
       → (single.answer_of found ≡ NoRefusal)
-      × (row_of l p ≡ Counted (plus t64 (single.value_of found) (entry_of l (p / 1024)).reference) (single.words_of found))
+      × (row_of l p ≡ Ok (counted (plus t64 (single.value_of found) (entry_of l (p / 1024)).reference) (single.words_of found)))
   unfolding e words row_at block_in
   row-single kind found is =
       let w = e.width in
@@ -152,13 +144,13 @@ module _ (l : List ℕ) (p : ℕ) (done : file_answer (row_tests l p) ≡ Done) 
       ∙ sym (single-good Single.Value Single.Refused t64 w words q plain.0 (length-numbers 8 body (16 * w)))
       ∙ ap (λ a. single Single.Value Single.Refused a (value_at t64 w words q) (count_at t64 w q)) (index_in q small) in (
         ap single.answer_of single-is,
-        counted kind
-            ∙ ap₂ Counted
+        with-count kind
+            ∙ ap₂ (λ v n. Ok (counted v n))
             (packed_value e body laid kind q small ∙ ap (λ f. plus t64 (single.value_of f) e.reference) (sym single-is))
             (ap single.words_of (sym single-is)),
       )
 
-  pub row_uncounted : 2 ≤ (entry_of l (p / 1024)).kind → row_of l p ≡ Uncounted (row_at l p)
+  pub row_uncounted : 2 ≤ (entry_of l (p / 1024)).kind → row_of l p ≡ Ok (uncounted (row_at l p))
   row_uncounted kind = row_done l p done ∙ rw (le-ltb (entry_of l (p / 1024)).kind 2 kind)
 
 -- ---- the worked files
@@ -172,7 +164,7 @@ abbrev pub one_of_sevens : List ℕ
 one_of_sevens = 1 ∷ 0 ∷ 1 ∷ 0 ∷ 1 ∷ 0 ∷ 0 ∷ 0 ∷ 0 ∷ 0 ∷ 0 ∷ 0 ∷ 7 ∷ 0 ∷ 0 ∷ 0 ∷ 0 ∷ 0 ∷ 0 ∷ 0 ∷ []
 
 -- Both are accepted.
-pub worked_accepted : (file_answer (file_tests no_blocks_lem) ≡ Done) × (file_answer (file_tests one_of_sevens) ≡ Done)
+pub worked_accepted : (file_answer (file_tests no_blocks_lem) ≡ Ok tt) × (file_answer (file_tests one_of_sevens) ≡ Ok tt)
 unfolding file_answer little entry_size contents_size bad_entry bad_runs bad_range first_bad first_failing tab tab_from is_right is_laid_out is_of_kind entry_of range_of body_start bodies_size has_good_runs has_true_range
 worked_accepted = (refl, refl)
 

@@ -6,8 +6,7 @@
 -- Assumes nothing.
 use Rattle.std.specs.Prelude.{ℕ, zero, suc, Bool, List}
 use Rattle.lists.specs.Pick.{pick}
-use Rattle.contents.specs.declared.FileAnswer.{FileAnswer}
-use Rattle.contents.specs.Answers.{file_answer}
+use Rattle.contents.specs.Answers.{FileAnswer, file_answer}
 use Rattle.contents.specs.Contents.{contents_tests}
 use Rattle.bodywise.specs.Steps.{step_of}
 

@@ -1,12 +1,12 @@
 -- The column file: where a body stands (R83), the blocks (R84) and the rows (R85) of a file, and what the check, one
 -- block out and the value at a file row answer and leave (R89, R90). `l` is the file, a list of bytes.
 -- Assumes nothing.
-use Rattle.std.specs.Prelude.{◌≡◌, ℕ, ◌*◌, ◌/◌, ◌%◌, Bool, true, List, [], ◌∷◌, ◌++◌, length, take, drop, ◌==◌, nat_lt, slice_index}
+use Rattle.std.specs.Prelude.{◌≡◌, ℕ, ◌*◌, ◌/◌, ◌%◌, Bool, true, List, [], ◌∷◌, ◌++◌, length, take, drop, ◌==◌, nat_lt, slice_index, Ok, Err}
 use Rattle.lists.specs.Tests.{long}
 use Rattle.lists.specs.Pick.{pick}
 use Rattle.lists.specs.Tab.{tab}
 use Rattle.lists.specs.Search.{first_bad}
-use Rattle.contents.specs.declared.FileAnswer.TheVariants.{Done, Beyond, Block, Range, Runs}
+use Rattle.contents.specs.declared.FileRefusal.TheVariants.{Beyond, Block, Range, Runs}
 use Rattle.contents.specs.Answers.{FileTest, file_answer, left}
 use Rattle.contents.specs.Contents.{edition, count, entry_of, range_of, body_start, contents_tests}
 use Rattle.bodies.specs.Bodies.{block_of, has_good_runs}
@@ -49,21 +49,21 @@ bad_range l = first_bad (count l) (has_true_range l)
 abbrev pub file_tests : (l : List ℕ) → List FileTest
 file_tests l =
     contents_tests l (length l)
-    ++ (((bad_runs l == count l), Runs (bad_runs l))
-    ∷ ((bad_range l == count l), Range (bad_range l))
+    ++ (((bad_runs l == count l), Err (Runs (bad_runs l)))
+    ∷ ((bad_range l == count l), Err (Range (bad_range l)))
     ∷ [])
 
 -- Up to the run indices they are these: in edition 1 there are no more.
 abbrev pub runs_tests : (l : List ℕ) → List FileTest
-runs_tests l = contents_tests l (length l) ++ (((bad_runs l == count l), Runs (bad_runs l)) ∷ [])
+runs_tests l = contents_tests l (length l) ++ (((bad_runs l == count l), Err (Runs (bad_runs l))) ∷ [])
 
 -- A file is taken where none of its tests fails.
 abbrev pub FileTaken : (l : List ℕ) → Type 0
-FileTaken l = file_answer (file_tests l) ≡ Done
+FileTaken l = file_answer (file_tests l) ≡ Ok tt
 
 -- One block out tests its output first, and the number of the block last.
 abbrev pub block_out_tests : (l : List ℕ) (b : ℕ) (output : List ℕ) → List FileTest
-block_out_tests l b output = (long 1024 output, Block) ∷ (file_tests l ++ ((nat_lt b (count l), Beyond) ∷ []))
+block_out_tests l b output = (long 1024 output, Err Block) ∷ (file_tests l ++ ((nat_lt b (count l), Err Beyond) ∷ []))
 
 -- One block out leaves this in its output.
 unfoldable pub block_out_leaves : (l : List ℕ) (b : ℕ) (output : List ℕ) → List ℕ
@@ -71,4 +71,4 @@ block_out_leaves l b output = left (file_answer (block_out_tests l b output)) (b
 
 -- The lookup of a row tests the number of the row last.
 abbrev pub row_tests : (l : List ℕ) (p : ℕ) → List FileTest
-row_tests l p = file_tests l ++ ((nat_lt p (row_count l), Beyond) ∷ [])
+row_tests l p = file_tests l ++ ((nat_lt p (row_count l), Err Beyond) ∷ [])

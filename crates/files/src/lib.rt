@@ -10,24 +10,23 @@
 
 mod lookup;
 
-ghost use Rattle.std.specs.Prelude.{◌≡◌, ◌+◌, ◌<◌, true, [], ◌∷◌, length, ◌==◌, ◌≢◌, nat_le, nat_lt, slice_index};
+ghost use Rattle.std.specs.Prelude.{◌≡◌, ◌+◌, ◌<◌, true, [], ◌∷◌, length, ◌==◌, nat_le, nat_lt, slice_index, Ok, Err, IfErr, OnOk};
 ghost use Rattle.lists.specs.Pick.{pick, either};
 ghost use Rattle.lists.specs.Search.{first_bad};
 ghost use Rattle.places.specs.Sizes.{t64};
 ghost use Rattle.access.specs.Counts.{count_at};
-ghost use Rattle.contents.specs.declared.FileAnswer.TheVariants.{Done, Runs, Range};
-ghost use Rattle.contents.specs.Answers.{file_answer, number_of};
+ghost use Rattle.contents.specs.declared.FileRefusal.TheVariants.{Runs, Range};
+ghost use Rattle.contents.specs.Answers.{file_answer};
 ghost use Rattle.contents.specs.Contents.{edition as edition_in, count as count_in, entry_of, entry_or, range_or, has_right_entry, body_start, contents_tests, ContentsTaken, is_laid_out};
 ghost use Rattle.bodies.specs.Bodies.{block_of, has_good_runs};
 ghost use Rattle.bodies.specs.Ranges.{is_range};
-ghost use Rattle.files.specs.declared.Row.TheVariants.{Counted, Uncounted, Refused};
 ghost use Rattle.files.specs.Files.{body_of, block_in, bad_range, runs_tests, file_tests, block_out_tests, block_out_leaves};
 ghost use Rattle.files.specs.Froms.{body_from, good_from, from_tests, from_leaves, true_from};
-ghost use Rattle.files.specs.Rows.{answer_of, value_of, given, row_of, row_from_lem};
+ghost use Rattle.files.specs.Rows.{counted, uncounted, given, row_of, row_from_lem};
 
 use access::Words;
 use bodies::is_range;
-use contents::{Entry, FileAnswer, count, edition, entry_or, range_or};
+use contents::{Entry, FileAnswer, FileRefusal, count, edition, entry_or, range_or};
 use lookup::{look_up, run_value, sum_up};
 use std::num::wrapping_add_u64;
 
@@ -35,36 +34,33 @@ use std::num::wrapping_add_u64;
 pub fn check(file: &[u8]) -> FileAnswer
     ensures { result ≡ file_answer (file_tests file.now) }
 {
-    let answer = check_runs(file);
-    if answer.number() != 0 {
-        return answer;
-    }
+    check_runs(file)?;
     check_ranges(file)
 }
 
 // Checks the ranges of a file that is right up to its run indices.
 fn check_ranges(file: &[u8]) -> FileAnswer
-    requires { file_answer (runs_tests file.now) ≡ Done }
+    requires { file_answer (runs_tests file.now) ≡ Ok tt }
     ensures { result
         ≡ file_answer
-        (((bad_range file.now == count_in file.now), Range (bad_range file.now)) ∷
+        (((bad_range file.now == count_in file.now), Err (Range (bad_range file.now))) ∷
         []) }
 {
     if edition(file) != 2 {
-        return FileAnswer::Done;
+        return Ok(());
     }
     let bad = false_range(file);
     let n = count(file);
     if bad == n {
-        return FileAnswer::Done;
+        return Ok(());
     }
-    FileAnswer::Range(bad)
+    Err(FileRefusal::Range(bad))
 }
 
 // The lowest block whose range is not the true one, and the count where there is none, in an edition 2 file that is
 // right up to its run indices.
 fn false_range(file: &[u8]) -> usize
-    requires file_value { file_answer (runs_tests file.now) ≡ Done }
+    requires file_value { file_answer (runs_tests file.now) ≡ Ok tt }
     requires file_value_2 { edition_in file.now ≡ 2 }
     ensures { result ≡ bad_range file.now }
 {
@@ -93,27 +89,24 @@ pub fn check_runs(file: &[u8]) -> FileAnswer
 // all these tests: where a later block is bad nothing is laid down, so block b is looked at here, and the lower one is
 // reported.
 fn check_but(file: &[u8], b: usize) -> FileAnswer
-    ensures value { (number_of result ≢ 0) → result ≡ file_answer (runs_tests file.now) }
-    ensures file_value { number_of result ≡ 0 → file_answer (contents_tests file.now (length file.now)) ≡ Done }
-    ensures i_value { number_of result ≡ 0 → first_bad (count_in file.now)
+    ensures refusal { IfErr result (λ refusal. Err refusal ≡ file_answer (runs_tests file.now)) }
+    ensures file_value { OnOk result (file_answer (contents_tests file.now (length file.now)) ≡ Ok tt) }
+    ensures i_value { OnOk result (first_bad (count_in file.now)
         (λ i. either (i == b) (has_good_runs (entry_of file.now i) (body_of file.now i))) ≡
-        count_in file.now }
+        count_in file.now) }
 {
-    let answer = contents::check(file, file.len());
-    if answer.number() != 0 {
-        return answer;
-    }
+    contents::check(file, file.len())?;
     let bad = first_bad_but(file, b);
     let n = count(file);
     if bad == n {
-        return FileAnswer::Done;
+        return Ok(());
     }
     if b < bad {
         if !is_good_from(file, b, body_start(file, b)) {
-            return FileAnswer::Runs(b);
+            return Err(FileRefusal::Runs(b));
         }
     }
-    FileAnswer::Runs(bad)
+    Err(FileRefusal::Runs(bad))
 }
 
 // The lowest block other than b that has a run index out of range, and the count where there is none, in a file whose
@@ -162,7 +155,7 @@ pub fn body_from(file: &[u8], i: usize, at: usize) -> &[u8]
 pub fn is_good_from(file: &[u8], i: usize, at: usize) -> bool
     ensures { result ≡ good_from file.now i at }
 {
-    bodies::check(entry_or(file, i), body_from(file, i, at)).number() == 0
+    bodies::check(entry_or(file, i), body_from(file, i, at)).is_ok()
 }
 
 // Lays down the block of entry i and of the body that begins at `at`. There is one body here, so the place of 10 and of
@@ -187,7 +180,7 @@ pub fn is_true_in(file: &[u8], i: usize, at: usize, block: &mut [u64]) -> bool
     ensures value { result ≡ is_range (range_or file.now i) (from_leaves file.now i at block.old) }
     ensures block_after { block.new ≡ from_leaves file.now i at block.old }
 {
-    block_from(file, i, at, block);
+    let _ = block_from(file, i, at, block);
     is_range(range_or(file, i), block)
 }
 
@@ -211,14 +204,11 @@ pub fn block_out(file: &[u8], b: usize, output: &mut [u64]) -> FileAnswer
     ensures output_after { output.new ≡ block_out_leaves file.now b output.old }
 {
     if output.len() != 1024 {
-        return FileAnswer::Block;
+        return Err(FileRefusal::Block);
     }
-    let answer = check_for(file, b);
-    if answer.number() != 0 {
-        return answer;
-    }
+    check_for(file, b)?;
     if count(file) <= b {
-        return FileAnswer::Beyond;
+        return Err(FileRefusal::Beyond);
     }
     lay_numbered(file, b, output)
 }
@@ -226,12 +216,12 @@ pub fn block_out(file: &[u8], b: usize, output: &mut [u64]) -> FileAnswer
 // Checks the file for one block out of it. The ranges are looked at behind all the run indices; where a file has no
 // ranges the run indices of block b can wait until that block is laid down.
 fn check_for(file: &[u8], b: usize) -> FileAnswer
-    ensures value { (number_of result ≢ 0) → result ≡ file_answer (file_tests file.now) }
-    ensures file_value { number_of result ≡ 0 → file_answer (contents_tests file.now (length file.now)) ≡ Done }
-    ensures i_value { number_of result ≡ 0 → first_bad (count_in file.now)
+    ensures refusal { IfErr result (λ refusal. Err refusal ≡ file_answer (file_tests file.now)) }
+    ensures file_value { OnOk result (file_answer (contents_tests file.now (length file.now)) ≡ Ok tt) }
+    ensures i_value { OnOk result (first_bad (count_in file.now)
         (λ i. either (i == b) (has_good_runs (entry_of file.now i) (body_of file.now i))) ≡
-        count_in file.now }
-    ensures file_value_2 { number_of result ≡ 0 → bad_range file.now ≡ count_in file.now }
+        count_in file.now) }
+    ensures file_value_2 { OnOk result (bad_range file.now ≡ count_in file.now) }
 {
     if edition(file) != 2 {
         return check_but(file, b);
@@ -246,64 +236,35 @@ fn lay_numbered(file: &[u8], b: usize, output: &mut [u64]) -> FileAnswer
     requires b_bound { b < count_in file.now }
     requires output_len { length output.old ≡ 1024 }
     ensures value { result
-        ≡ pick (has_good_runs (entry_of file.now b) (body_of file.now b)) Done (Runs b) }
+        ≡ pick (has_good_runs (entry_of file.now b) (body_of file.now b)) (Ok tt) (Err (Runs b)) }
     ensures output_after { output.new
         ≡ pick (has_good_runs (entry_of file.now b) (body_of file.now b))
         (block_in file.now b) output.old }
 {
     let at = body_start(file, b);
-    let answer = block_from(file, b, at, output);
-    if answer.number() != 0 {
-        return FileAnswer::Runs(b);
+    if block_from(file, b, at, output).is_err() {
+        return Err(FileRefusal::Runs(b));
     }
-    FileAnswer::Done
+    Ok(())
 }
 
 // The value at a file row, with how many packed words its bits stand in where its block is of kind 0 or 1, and without
-// where it is of kind 2 or 3; or the refusal.
+// where it is of kind 2 or 3.
 #[derive(Clone, Copy)]
-pub enum Row {
-    Counted(u64, Words),
-    Uncounted(u64),
-    Refused(FileAnswer),
-}
-
-impl Row {
-    // The answer in the terms of the other calls.
-    pub fn answer(self) -> FileAnswer
-        ensures { result ≡ answer_of self }
-    {
-        match self {
-            Row::Counted(_, _) => FileAnswer::Done,
-            Row::Uncounted(_) => FileAnswer::Done,
-            Row::Refused(a) => a,
-        }
-    }
-
-    // The value; 0 after a refusal.
-    pub fn value(self) -> u64
-        ensures { result ≡ value_of self }
-    {
-        match self {
-            Row::Counted(v, _) => v,
-            Row::Uncounted(v) => v,
-            Row::Refused(_) => 0,
-        }
-    }
+pub struct Row {
+    pub value: u64,
+    pub words: Option<Words>,
 }
 
 // The value at row p of the file, place p mod 1,024 of block p / 1,024, and its count of packed words: the check, and
 // then the lookup in the row's body.
-pub fn row_at(file: &[u8], p: usize) -> Row
+pub fn row_at(file: &[u8], p: usize) -> Result<Row, FileRefusal>
     ensures { result ≡ row_of file.now p }
 {
     let b = p / 1024;
-    let answer = check_for(file, b);
-    if answer.number() != 0 {
-        return Row::Refused(answer);
-    }
+    check_for(file, b)?;
     if count(file) <= b {
-        return Row::Refused(FileAnswer::Beyond);
+        return Err(FileRefusal::Beyond);
     }
     row_from(file, b, body_start(file, b), p)
 }
@@ -312,19 +273,19 @@ pub fn row_at(file: &[u8], p: usize) -> Row
 // one (R93). This is for a file that was checked before, with a number and a place that the walk over its bodies gives.
 // It looks at the entry, its range and the edition, and in the body at the words that hold the value; in a body of
 // differences at the base of its lane and at the rows up to its own, and in a body of runs at every run index.
-pub fn row_from(file: &[u8], i: usize, at: usize, p: usize) -> Row
+pub fn row_from(file: &[u8], i: usize, at: usize, p: usize) -> Result<Row, FileRefusal>
     ensures { result ≡ row_from_lem file.now i at p }
 {
     let e = entry_or(file, i);
     let size = e.length as usize;
     if !holds(file.len(), at, size) {
-        return Row::Refused(FileAnswer::Cut);
+        return Err(FileRefusal::Cut);
     }
     if !is_right(file, i, e) {
-        return Row::Refused(FileAnswer::BadEntry(i));
+        return Err(FileRefusal::BadEntry(i));
     }
     if p / 1024 != i {
-        return Row::Refused(FileAnswer::Beyond);
+        return Err(FileRefusal::Beyond);
     }
     let end = at + size;
     row_in(e, &file[at..end], i, p % 1024)
@@ -353,19 +314,22 @@ fn holds(n: usize, at: usize, size: usize) -> bool
 }
 
 // The value at a place of block i, whose entry is as laid out and whose body is as long as that says.
-fn row_in(e: Entry, body: &[u8], i: usize, place: usize) -> Row
+fn row_in(e: Entry, body: &[u8], i: usize, place: usize) -> Result<Row, FileRefusal>
     requires e_value { is_laid_out e ≡ true }
     requires body_len { length body.now ≡ e.length }
     requires place_bound { place < 1024 }
     ensures { result
-        ≡ pick (has_good_runs e body.now) (given e place (slice_index (block_of e body.now) place)) (Refused
-        (Runs i)) }
+        ≡ pick (has_good_runs e body.now)
+        (Ok (given e place (slice_index (block_of e body.now) place))) (Err (Runs i)) }
 {
     let kind = e.kind;
     match kind {
-        2 => Row::Uncounted(sum_up(e.width as usize, body, place)),
+        2 => Ok(Row {
+            value: sum_up(e.width as usize, body, place),
+            words: None,
+        }),
         3 => run_row(e, body, i, place),
-        _ => packed_row(e, body, place),
+        _ => Ok(packed_row(e, body, place)),
     }
 }
 
@@ -376,24 +340,30 @@ fn packed_row(e: Entry, body: &[u8], place: usize) -> Row
     requires kind_bound { e.kind < 2 }
     requires body_len { length body.now ≡ e.length }
     requires place_bound { place < 1024 }
-    ensures { result ≡ Counted (slice_index (block_of e body.now) place) (count_at t64 e.width place) }
+    ensures { result ≡ counted (slice_index (block_of e body.now) place) (count_at t64 e.width place) }
 {
     let found = look_up(e.width as usize, body, place);
-    Row::Counted(wrapping_add_u64(found.value, e.reference), found.words)
+    Row {
+        value: wrapping_add_u64(found.value, e.reference),
+        words: Some(found.words),
+    }
 }
 
 // The value at a place of a body of runs, all of whose run indices are looked at.
-fn run_row(e: Entry, body: &[u8], i: usize, place: usize) -> Row
+fn run_row(e: Entry, body: &[u8], i: usize, place: usize) -> Result<Row, FileRefusal>
     requires e_value { is_laid_out e ≡ true }
     requires kind_value { e.kind ≡ 3 }
     requires body_len { length body.now ≡ e.length }
     requires place_bound { place < 1024 }
     ensures { result
-        ≡ pick (has_good_runs e body.now) (Uncounted (slice_index (block_of e body.now) place)) (Refused
-        (Runs i)) }
+        ≡ pick (has_good_runs e body.now)
+        (Ok (uncounted (slice_index (block_of e body.now) place))) (Err (Runs i)) }
 {
-    if bodies::check(e, body).number() != 0 {
-        return Row::Refused(FileAnswer::Runs(i));
+    if bodies::check(e, body).is_err() {
+        return Err(FileRefusal::Runs(i));
     }
-    Row::Uncounted(run_value(body, place))
+    Ok(Row {
+        value: run_value(body, place),
+        words: None,
+    })
 }

@@ -59,11 +59,9 @@ fn sum_to(width: usize, body: &[u8], l: usize, r: usize, base: u64) -> u64
     ensures { result ≡ summed t64 (digit width (words_number t64 width (packed_from body.now 0 width) l)) base r }
 {
     let mut sum = base;
-    let mut k = 0;
-    while k <= r {
+    for k in 0..r + 1 {
         let found = read(width, body, l, k);
         sum = wrapping_add_u64(found.value, sum);
-        k += 1;
     }
     sum
 }

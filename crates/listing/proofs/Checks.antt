@@ -12,13 +12,12 @@ use native.Mathlib.Omega.{arith}
 use lib.Dec.{leb}
 use lib.ListN.{length, take, drop}
 use borrow.Author.Tests.{eqb-true, eqb-false, leb-true}
+use Rattle.std.specs.Prelude.{Ok}
 use Rattle.lists.specs.Pick.{pick}
 use Rattle.lists.specs.Tab.{over}
 use Rattle.lists.proofs.Overs.{over-front}
 use Rattle.contents.specs.declared.Entry.{Entry}
-use Rattle.contents.specs.declared.FileAnswer.{FileAnswer}
-use Rattle.contents.specs.declared.FileAnswer.TheVariants.{Done as Accepted}
-use Rattle.contents.specs.Answers.{file_answer, number_of, is_done}
+use Rattle.contents.specs.Answers.{FileAnswer, file_answer, number_of, is_done}
 use Rattle.contents.specs.Contents.{edition_or, count_or, count, contents_size, entry_of, body_start, is_laid_out, contents_tests}
 use Rattle.contents.proofs.Answers.{number-done, in_front-refused}
 use Rattle.contents.proofs.Laid.{laid_packed, laid_frame, laid_differences, laid_runs, laid_kind}
@@ -60,7 +59,7 @@ laid_most e good =
     ]
 
 -- The part of the file that is wished for is the body.
-pub body-read : (l : List ℕ) → file_answer (contents_tests l (length l)) ≡ Accepted → (b : Body) → Walking l b → b.number < count l
+pub body-read : (l : List ℕ) → file_answer (contents_tests l (length l)) ≡ Ok tt → (b : Body) → Walking l b → b.number < count l
     → part_at l b.at (min b.entry.length 10240) ≡ body_of l b.number
 unfolding body_of
 body-read l done b walk more =
@@ -70,7 +69,7 @@ body-read l done b walk more =
     ap₂ (λ n at. take n (drop at l)) n walk.start
 
 -- A body of the walk with its number and its place alone.
-pub again_walking : (l : List ℕ) → file_answer (contents_tests l (length l)) ≡ Accepted → (n at : ℕ) → n ≤ count l → at ≡ body_start l n
+pub again_walking : (l : List ℕ) → file_answer (contents_tests l (length l)) ≡ Ok tt → (n at : ℕ) → n ≤ count l → at ≡ body_start l n
     → Walking l (body_at (front_of l) n at)
 again_walking l done n at within start = record { within = within; start = start; entry = λ h. (front-right l).entry-is done n h }
 
@@ -97,7 +96,7 @@ refused_on front size bodies a refused n e (suc j) =
     ∙ before
 
 -- What is printed of a file that is taken, and of one that is refused.
-taken : (side : Side) (l rest : List ℕ) → answer_to l ≡ Accepted → unless_refused side l rest ≡ rest
+taken : (side : Side) (l rest : List ℕ) → answer_to l ≡ Ok tt → unless_refused side l rest ≡ rest
 taken side l rest e = ap (λ a. pick (is_done a) rest (refusal_line side a)) e
 
 turned_away : (side : Side) (l rest : List ℕ) (a : FileAnswer) → answer_to l ≡ a → is_done a ≡ false → unless_refused side l rest ≡ refusal_line side a
@@ -135,7 +134,7 @@ module _ (l m : List ℕ) where
   -- A file with what comes behind its check, where it is taken: whatever stands in the bodies' buffers.
   module _ (side : Side) (need : ℕ) (rest text out : List ℕ) (room : 65536 ≤ length out) (two : 2 ≤ need) (fits : length (file_on side l m) < 18446744073709551616)
       (on : (k : ℕ) (s : State) (h : Held) → need ≤ k → Sized l m s → front_in side h ≡ front_of (file_on side l m) → front_in (other side) h ≡ rest
-      → answer_to (file_on side l m) ≡ Accepted → runs_by next_of l m k (given (behind s side) out) h ≡ printed text) where
+      → answer_to (file_on side l m) ≡ Ok tt → runs_by next_of l m k (given (behind s side) out) h ≡ printed text) where
     abbrev file : List ℕ
     file = file_on side l m
 
@@ -147,7 +146,7 @@ module _ (l m : List ℕ) where
 
     -- An answer that is done goes on, and a refusal is the answer to the file and the last text.
     by_answer : (k : ℕ) (s : State) (h : Held) (a : FileAnswer) (d : Body) → 2 ≤ k → (is_done a ≡ false → answer_to file ≡ a)
-        → (a ≡ Accepted → runs_by next_of l m k (given (go_to s side front d) out) h ≡ printed (unless_refused side file text))
+        → (a ≡ Ok tt → runs_by next_of l m k (given (go_to s side front d) out) h ≡ printed (unless_refused side file text))
         → (t : Bool) → is_done a ≡ t → runs_by next_of l m k (checked_by a s side front d out) h ≡ printed (unless_refused side file text)
     unfolding refusal
     by_answer k s h a d some refused next true e =
@@ -157,7 +156,7 @@ module _ (l m : List ℕ) where
         ∙ last_text_lem k s (refusal_line side a) out h some room
         ∙ ap printed (sym (turned_away side file text a (refused e) e))
 
-    module _ (done : file_answer (contents_tests file (length file)) ≡ Accepted) where
+    module _ (done : file_answer (contents_tests file (length file)) ≡ Ok tt) where
       -- A refusal of a body is the answer to the file.
       body_refused : (n : ℕ) (a : FileAnswer) → n < count file → after (suc n) ≡ a → is_done a ≡ false → answer_to file ≡ a
       body_refused n a h e refused =
@@ -165,10 +164,10 @@ module _ (l m : List ℕ) where
           sym (held-answer file) ∙ ap after j ∙ refused_on front (length file) (body_of file) a (eqb-false (number_of a) 0 refused) (suc n) e (count file - suc n)
 
       -- One body: what the run does behind it is given for the next.
-      one-body : (k : ℕ) (s : State) (h : Held) (c : Body) → Walking file c → c.number < count file → after c.number ≡ Accepted → Sized l m s
+      one-body : (k : ℕ) (s : State) (h : Held) (c : Body) → Walking file c → c.number < count file → after c.number ≡ Ok tt → Sized l m s
           → front_in side h ≡ front → 3 ≤ k
           → ((s : State) (h' : Held) (d : Body) → Sized l m s → front_in side h' ≡ front → front_in (other side) h' ≡ front_in (other side) h
-          → Walking file d → d.number ≡ suc c.number → after (suc c.number) ≡ Accepted
+          → Walking file d → d.number ≡ suc c.number → after (suc c.number) ≡ Ok tt
           → runs_by next_of l m (k - 1) (given (go_to s side front d) out) h' ≡ printed (unless_refused side file text))
           → runs_by next_of l m k (given (go_to s side front c) out) h ≡ printed (unless_refused side file text)
       unfolding answer_after
@@ -176,7 +175,7 @@ module _ (l m : List ℕ) where
           let s' : State = (turn_to (at_body_lem s side c) (Checking side) (body_wish side c)).state in
           let bytes = part_at file c.at (min c.entry.length 10240) in
           let h' = filled h side OfBody bytes in
-          let a = step_of Accepted front c.number (body_of file c.number) in
+          let a = step_of (Ok tt) front c.number (body_of file c.number) in
           let d = next_body front (body_at front c.number c.at) in
           let walk' = again_walking file done c.number c.at walk.within walk.start in
           let same : after (suc c.number) ≡ a = ap (λ a. step_of a front c.number (body_of file c.number)) before in
@@ -184,7 +183,7 @@ module _ (l m : List ℕ) where
           ap (λ g. runs_by next_of l m k (given g out) h) (to_more s side front c (omega (arith, (front-right file).count-is done)))
           ∙ did_read next_of l m k side OfBody c.at (min c.entry.length 10240) s' h out (checked_by a s' side front d out) (omega arith) (omega arith)
           (at_body s h out room side c bytes
-          ∙ ap₂ (λ f b. checked_by (step_of Accepted f c.number b) s' side f (next_body f (body_at f c.number c.at)) out) is_front (body-read file done c walk more))
+          ∙ ap₂ (λ f b. checked_by (step_of (Ok tt) f c.number b) s' side f (next_body f (body_at f c.number c.at)) out) is_front (body-read file done c walk more))
           ∙ by_answer (k - 1) s' h' a d (omega arith) (body_refused c.number a more same)
           (λ accepted. next s' h' d (record { left-long = sized'.left-long; right-long = sized'.right-long })
           (kept_front side h bytes ∙ is_front) (kept_other side h bytes)
@@ -194,12 +193,12 @@ module _ (l m : List ℕ) where
           (is_done a) refl
 
       -- The bodies from one on.
-      checks : (b k : ℕ) (s : State) (h : Held) (c : Body) → Walking file c → c.number + b ≡ count file → after c.number ≡ Accepted → Sized l m s
+      checks : (b k : ℕ) (s : State) (h : Held) (c : Body) → Walking file c → c.number + b ≡ count file → after c.number ≡ Ok tt → Sized l m s
           → front_in side h ≡ front → front_in (other side) h ≡ rest → b + need ≤ k
           → runs_by next_of l m k (given (go_to s side front c) out) h ≡ printed (unless_refused side file text)
       checks zero k s h c walk all before sized is_front is-rest enough =
           let e : c.number ≡ count file = omega arith in
-          let accepted : answer_to file ≡ Accepted = sym (held-answer file) ∙ ap after (sym e) ∙ before in
+          let accepted : answer_to file ≡ Ok tt = sym (held-answer file) ∙ ap after (sym e) ∙ before in
           ap (λ g. runs_by next_of l m k (given g out) h) (to_over s side front c (omega (arith, (front-right file).count-is done)))
           ∙ on k s h (omega arith) sized is_front is-rest accepted
           ∙ ap printed (sym (taken side file text accepted))
@@ -227,7 +226,7 @@ module _ (l m : List ℕ) where
         in_front-refused (contents_tests file (length file)) _ (λ d. eqb-false (number_of (file_answer (contents_tests front (length file)))) 0 refused (ap number_of (same ∙ d)))
         ∙ sym same
 
-    blocks_are : file_answer (contents_tests file (length file)) ≡ Accepted → blocks_of file ≡ count file
+    blocks_are : file_answer (contents_tests file (length file)) ≡ Ok tt → blocks_of file ≡ count file
     unfolding blocks_of
     blocks_are done = ap (λ a. pick (is_done a) (count file) 0) done
 

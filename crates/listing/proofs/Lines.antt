@@ -17,8 +17,7 @@ use Rattle.lists.proofs.Overs.{over_append, length_over, over_nothing, over_tail
 use Rattle.decimal.specs.Calls.{laid_of, lay_leaves}
 use Rattle.decimal.specs.Decimal.{text_of}
 use Rattle.decimal.proofs.Texts.{long-most}
-use Rattle.contents.specs.declared.FileAnswer.{FileAnswer}
-use Rattle.contents.specs.Answers.{number_of, place_of}
+use Rattle.contents.specs.Answers.{FileAnswer, number_of, place_of}
 use Rattle.compare.specs.declared.Change.{Change}
 use Rattle.wishes.specs.declared.Side.{Side}
 use Rattle.wishes.specs.declared.Side.TheVariants.{Left, Right}

@@ -8,19 +8,19 @@ use native.Mathlib.Omega.{arith}
 use lib.ListN.{length, get_or, take, drop, length-map}
 use lib.Seq.{take_all, get_or-take}
 use borrow.Author.Tests.{eq-eqb}
+use Rattle.std.specs.Prelude.{Result, Ok}
+use Rattle.std.specs.Result.{result_unwrap_or}
 use Rattle.lists.specs.Tab.{over}
 use Rattle.lists.proofs.Overs.{over-front, over-rest}
 use Rattle.lists.proofs.Failing.{failing_few}
-use Rattle.contents.specs.declared.FileAnswer.{FileAnswer}
-use Rattle.contents.specs.declared.FileAnswer.TheVariants.{Done as Accepted}
-use Rattle.contents.specs.Answers.{file_answer, number_of, left as leaves}
+use Rattle.contents.specs.declared.FileRefusal.{FileRefusal}
+use Rattle.contents.specs.Answers.{FileAnswer, file_answer, number_of, left as leaves}
 use Rattle.contents.specs.Contents.{entry_or}
 use Rattle.contents.proofs.Answers.{passed, none_left, number-done}
 use Rattle.bodies.specs.Bodies.{block_of}
 use Rattle.bodywise.specs.Steps.{body_tests, held_tests, held_leaves}
 use Rattle.compare.specs.declared.Change.{Change}
-use Rattle.compare.specs.declared.Compared.{Compared}
-use Rattle.compare.specs.Changes.{differing, is_same_at, change_at, changes_in, differing_tests, compared_of, differing_leaves, count_of}
+use Rattle.compare.specs.Changes.{differing, is_same_at, change_at, changes_in, differing_tests, compared_of, differing_leaves}
 use Rattle.compare.proofs.Noted.{some_differ}
 use Rattle.listing.specs.Text.{change_line, lines_of}
 use Rattle.listing.proofs.Stages.{over-text}
@@ -83,12 +83,12 @@ laid_all i left right {k} {at} {old} {new} before h =
 -- ---- what the comparison of two blocks gives
 
 module _ (left right places : List ℕ) (long : length left ≡ 1024) (also : length right ≡ 1024) (room : length places ≡ 1024) where
-  lengths-done : file_answer (differing_tests left right places) ≡ Accepted
+  lengths-done : file_answer (differing_tests left right places) ≡ Ok tt
   lengths-done =
       passed _ _ (eq-eqb (length left) 1024 long) ∙ passed _ _ (eq-eqb (length right) 1024 also) ∙ passed _ _ (eq-eqb (length places) 1024 room) ∙ none_left
 
-  pub counted : {r : Compared} {n : ℕ} → r ≡ compared_of left right places → n ≡ count_of r → n ≡ length (differing left right)
-  counted {r} {n} e f = f ∙ ap count_of (e ∙ sym (some_differ left right places lengths-done {n = length (differing left right)} {y = over 0 (differing left right) places} refl refl).0)
+  pub counted : {r : Result ℕ FileRefusal} {n : ℕ} → r ≡ compared_of left right places → n ≡ result_unwrap_or r 0 → n ≡ length (differing left right)
+  counted {r} {n} e f = f ∙ ap (λ r. result_unwrap_or r 0) (e ∙ sym (some_differ left right places lengths-done {n = length (differing left right)} {y = over 0 (differing left right) places} refl refl).0)
 
   pub noted : {y : List ℕ} → y ≡ differing_leaves left right places → (over 0 (differing left right) y ≡ y) × (length (differing left right) ≤ length y)
   noted {y} e =

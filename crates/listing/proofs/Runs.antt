@@ -10,11 +10,11 @@ use native.Mathlib.Numerals.{add-one}
 use native.Mathlib.Omega.{arith}
 use lib.ListN.{length, take, replicate, length-append, length-replicate}
 use borrow.Author.Tests.{eqb-true}
+use Rattle.std.specs.Prelude.{Ok}
 use Rattle.lists.specs.Pick.{pick}
 use Rattle.lists.specs.Tab.{over}
 use Rattle.lists.proofs.Overs.{over-front}
 use Rattle.places.specs.Sizes.{largest_u64}
-use Rattle.contents.specs.declared.FileAnswer.TheVariants.{Done as Accepted}
 use Rattle.contents.specs.Answers.{file_answer, number_of, is_done}
 use Rattle.contents.specs.Contents.{count, count_or, entry_or, body_start, contents_tests}
 use Rattle.contents.proofs.Accepted.{done_first}
@@ -66,8 +66,8 @@ all_from l m =
 
 -- ---- one file that is taken
 
-module _ (l : List ℕ) (accepted : answer_to l ≡ Accepted) where
-  contents-done : file_answer (contents_tests l (length l)) ≡ Accepted
+module _ (l : List ℕ) (accepted : answer_to l ≡ Ok tt) where
+  contents-done : file_answer (contents_tests l (length l)) ≡ Ok tt
   contents-done = contents-right l (file-runs l accepted)
 
   blocks_taken : blocks_of l ≡ count l
@@ -75,7 +75,7 @@ module _ (l : List ℕ) (accepted : answer_to l ≡ Accepted) where
   blocks_taken = ap (λ a. pick (is_done a) (count l) 0) contents-done
 
   module _ (i : ℕ) (h : i < count l) where
-    body-taken : file_answer (body_tests (front_of l) i (body_of l i)) ≡ Accepted
+    body-taken : file_answer (body_tests (front_of l) i (body_of l i)) ≡ Ok tt
     body-taken =
         let zeros : List ℕ = replicate 1024 0 in
         (done_first _ _ refl (again-answer l (front_of l) (front-right l) accepted i h zeros (length-replicate {A = ℕ} 1024 0))).1
@@ -84,7 +84,7 @@ module _ (l : List ℕ) (accepted : answer_to l ≡ Accepted) where
     unfolding block_in
     block_read = ap (λ e. block_of e (body_of l i)) ((front-right l).entry-is contents-done i h)
 
-    range-taken : file_answer (range_tests (front_of l) i (block_in l i)) ≡ Accepted
+    range-taken : file_answer (range_tests (front_of l) i (block_in l i)) ≡ Ok tt
     range-taken = again-range l (front_of l) (front-right l) accepted i h
 
   -- where the next body begins
@@ -101,7 +101,7 @@ module _ (l : List ℕ) (accepted : answer_to l ≡ Accepted) where
 
 -- ---- the list
 
-module _ (l m : List ℕ) (left-taken : answer_to l ≡ Accepted) (right-taken : answer_to m ≡ Accepted)
+module _ (l m : List ℕ) (left-taken : answer_to l ≡ Ok tt) (right-taken : answer_to m ≡ Ok tt)
     (left-fits : length l < 18446744073709551616) (right-fits : length m < 18446744073709551616) where
   abbrev n : ℕ
   n = min (count l) (count m)

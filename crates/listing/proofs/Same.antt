@@ -12,6 +12,7 @@ use lib.Dec.{eqb, leb}
 use lib.ListN.{length, get_or}
 use lib.Seq.{ext_get_or}
 use borrow.Author.Tests.{eq-eqb, eqb-true, eqb-false}
+use Rattle.std.specs.Prelude.{Err}
 use Rattle.lists.specs.Pick.{pick, both}
 use Rattle.lists.specs.Tab.{over}
 use Rattle.lists.proofs.Overs.{over_nothing}
@@ -19,9 +20,8 @@ use Rattle.lists.proofs.Tests.{both_true}
 use Rattle.lists.proofs.Failing.{failing_none}
 use Rattle.places.specs.Sizes.{largest_u64}
 use Rattle.contents.specs.declared.Entry.{Entry}
-use Rattle.contents.specs.declared.FileAnswer.{FileAnswer}
-use Rattle.contents.specs.declared.FileAnswer.TheVariants.{Cut, BadEntry, Over, Runs}
-use Rattle.contents.specs.Answers.{FileTest, file_answer, number_of, is_done}
+use Rattle.contents.specs.declared.FileRefusal.TheVariants.{Cut, BadEntry, Over, Runs}
+use Rattle.contents.specs.Answers.{FileAnswer, FileTest, file_answer, number_of, is_done}
 use Rattle.contents.specs.Contents.{entry_or, has_right_entry}
 use Rattle.bodies.specs.Bodies.{block_of, has_good_runs}
 use Rattle.bodywise.specs.Steps.{body_tests}
@@ -102,10 +102,10 @@ none-listed s left_front_lem right_front_lem block out =
 -- the tests of a body, by what its file says of it
 abbrev tests_for : (i : ℕ) (right : Bool) (e : Entry) (body : List ℕ) → List FileTest
 tests_for i right e body =
-    (right, BadEntry i)
-    ∷ (leb e.length (length body), Cut)
-    ∷ (leb (length body) e.length, Over)
-    ∷ (has_good_runs e body, Runs i)
+    (right, Err (BadEntry i))
+    ∷ (leb e.length (length body), Err Cut)
+    ∷ (leb (length body) e.length, Err Over)
+    ∷ (has_good_runs e body, Err (Runs i))
     ∷ []
 
 -- The right body is answered as the left one, and stands for the same block: the list goes behind it.

@@ -9,11 +9,10 @@ use native.Mathlib.Omega.{arith}
 use lib.Dec.{eqb}
 use lib.ListN.{length, length-append, length-take, length-drop}
 use borrow.Author.Tests.{le-leb, lt-leb, lt-ltb, le-ltb, eq-eqb, ne_eqb}
+use Rattle.std.specs.Prelude.{Ok}
 use Rattle.lists.specs.Pick.{pick, both}
 use Rattle.lists.specs.Tab.{over}
-use Rattle.contents.specs.declared.FileAnswer.{FileAnswer}
-use Rattle.contents.specs.declared.FileAnswer.TheVariants.{Done as Accepted}
-use Rattle.contents.specs.Answers.{file_answer, number_of, is_done}
+use Rattle.contents.specs.Answers.{FileAnswer, file_answer, number_of, is_done}
 use Rattle.contents.specs.Contents.{count_or, entry_or, contents_tests}
 use Rattle.bodies.specs.Bodies.{block_of}
 use Rattle.bodywise.specs.declared.Body.{Body}
@@ -132,7 +131,7 @@ module _ (s : State) (h : Held) (out : List ℕ) (room : 65536 ≤ length out) w
   -- and a body that was wished for.
   pub at_body : (side : Side) (b : Body) (bytes : List ℕ) →
       next_of (turn_to (at_body_lem s side b) (Checking side) (body_wish side b)).state (filled h side OfBody bytes) out
-      ≡ checked_by (step_of Accepted (front_in side h) b.number bytes) (turn_to (at_body_lem s side b) (Checking side) (body_wish side b)).state side
+      ≡ checked_by (step_of (Ok tt) (front_in side h) b.number bytes) (turn_to (at_body_lem s side b) (Checking side) (body_wish side b)).state side
       (front_in side h) (next_body (front_in side h) (body_at (front_in side h) b.number b.at)) out
   unfolding by_stage check_body
   at_body Left b bytes = at_stage (Checking Left) (turn_to (at_body_lem s Left b) (Checking Left) (body_wish Left b)).state (filled h Left OfBody bytes) out room refl
@@ -164,7 +163,7 @@ module _ (s : State) (side : Side) (size : ℕ) (front out : List ℕ) {a : File
   unfolding check_front
   front-good z = simp (is-done e z)
 
-module _ (s : State) (side : Side) (at : ℕ) (front body out : List ℕ) {a : FileAnswer} (e : a ≡ step_of Accepted front s.number body) where
+module _ (s : State) (side : Side) (at : ℕ) (front body out : List ℕ) {a : FileAnswer} (e : a ≡ step_of (Ok tt) front s.number body) where
   pub body_bad : (number_of a ≡ 0 → ⊥) → check_body s side at front body out ≡ refusal s side a out
   unfolding check_body
   body_bad n = simp (not_done e n) (ap (λ x. refusal s side x out) (sym e))
@@ -263,7 +262,7 @@ module _ (s : State) (left_front_lem right_front_lem out : List ℕ) where
           apart-is ∙ simp (is-done e z, is-done f w)
 
     -- Where both ranges are right, the rows are listed in either case.
-    pub compared-taken : file_answer (range_tests left_front_lem s.number left) ≡ Accepted → file_answer (range_tests right_front_lem s.number right) ≡ Accepted
+    pub compared-taken : file_answer (range_tests left_front_lem s.number left) ≡ Ok tt → file_answer (range_tests right_front_lem s.number right) ≡ Ok tt
         → compared s left_front_lem right_front_lem left right out ≡ listed s left_front_lem right_front_lem left right out
     compared-taken e f = go alike refl
       where

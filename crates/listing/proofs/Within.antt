@@ -8,11 +8,10 @@ use native.Mathlib.Omega.{arith}
 use lib.Dec.{eqb, leb, ltb}
 use lib.ListN.{length}
 use borrow.Author.Tests.{le-leb}
+use Rattle.std.specs.Prelude.{Ok}
 use Rattle.lists.specs.Pick.{pick, both}
 use Rattle.lists.specs.Tab.{over}
-use Rattle.contents.specs.declared.FileAnswer.{FileAnswer}
-use Rattle.contents.specs.declared.FileAnswer.TheVariants.{Done as Accepted}
-use Rattle.contents.specs.Answers.{file_answer, is_done}
+use Rattle.contents.specs.Answers.{FileAnswer, file_answer, is_done}
 use Rattle.contents.specs.Contents.{count_or, entry_or, contents_tests}
 use Rattle.bodies.specs.Bodies.{block_of}
 use Rattle.bodywise.specs.declared.Body.{Body}
@@ -108,9 +107,9 @@ stage_within (Front Left) s h out =
 stage_within (Front Right) s h out =
     checked_within (file_answer (contents_tests h.right_front_lem s.right.size)) s Right h.right_front_lem (first_body h.right_front_lem) out
 stage_within (Checking Left) s h out =
-    checked_within (step_of Accepted h.left_front_lem s.number h.left_body_lem) s Left h.left_front_lem (next_body h.left_front_lem (body_at h.left_front_lem s.number s.left.at)) out
+    checked_within (step_of (Ok tt) h.left_front_lem s.number h.left_body_lem) s Left h.left_front_lem (next_body h.left_front_lem (body_at h.left_front_lem s.number s.left.at)) out
 stage_within (Checking Right) s h out =
-    checked_within (step_of Accepted h.right_front_lem s.number h.right_body_lem) s Right h.right_front_lem (next_body h.right_front_lem (body_at h.right_front_lem s.number s.right.at)) out
+    checked_within (step_of (Ok tt) h.right_front_lem s.number h.right_body_lem) s Right h.right_front_lem (next_body h.right_front_lem (body_at h.right_front_lem s.number s.right.at)) out
 stage_within Checked s h out = le-leb 0 (length out) (omega arith)
 stage_within Between s h out = on_within s h.left_front_lem h.right_front_lem out
 stage_within (Again Left) s h out = body-within Right (body_at h.right_front_lem s.number s.right.at) out

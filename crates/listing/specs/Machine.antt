@@ -2,13 +2,11 @@
 -- definition for each step of the code. `left` and `right` with `Front` or `Body` are what the buffers hold. That its
 -- runs print what Text says is the theorem.
 -- Assumes nothing.
-use Rattle.std.specs.Prelude.{List, ℕ, ◌+◌, ◌*◌, min, eqb, leb, ltb, length}
+use Rattle.std.specs.Prelude.{List, ℕ, ◌+◌, ◌*◌, min, eqb, leb, ltb, length, Ok}
 use Rattle.lists.specs.Pick.{pick, both}
 use Rattle.lists.specs.Tab.{over}
 use Rattle.places.specs.Sizes.{largest_u64}
-use Rattle.contents.specs.declared.FileAnswer.{FileAnswer}
-use Rattle.contents.specs.declared.FileAnswer.TheVariants.{Done as Accepted}
-use Rattle.contents.specs.Answers.{file_answer, is_done}
+use Rattle.contents.specs.Answers.{FileAnswer, file_answer, is_done}
 use Rattle.contents.specs.Contents.{count_or, entry_or, contents_tests}
 use Rattle.bodies.specs.Bodies.{block_of}
 use Rattle.bodywise.specs.declared.Body.{Body}
@@ -133,7 +131,7 @@ after_front s Right left_front_lem right_front_lem out = check_front s Right s.r
 -- A body is there: it is checked, and the next body is the one behind it.
 unfoldable pub check_body : (s : State) (side : Side) (at : ℕ) (front body out : List ℕ) → Given State
 check_body s side at front body out =
-    checked_by (step_of Accepted front s.number body) s side front (next_body front (body_at front s.number at)) out
+    checked_by (step_of (Ok tt) front s.number body) s side front (next_body front (body_at front s.number at)) out
 
 -- It is a body of the file that was read.
 abbrev pub after_body : (s : State) (side : Side) (left_front_lem right_front_lem left_body_lem right_body_lem out : List ℕ) → Given State

@@ -3,8 +3,7 @@
 use Rattle.std.specs.Prelude.{List, [], ◌∷◌, ◌++◌, ℕ, ◌+◌, ◌*◌, min, eqb, length}
 use Rattle.lists.specs.Pick.{pick}
 use Rattle.decimal.specs.Decimal.{text_of}
-use Rattle.contents.specs.declared.FileAnswer.{FileAnswer}
-use Rattle.contents.specs.Answers.{file_answer, number_of, place_of, is_done}
+use Rattle.contents.specs.Answers.{FileAnswer, file_answer, number_of, place_of, is_done}
 use Rattle.contents.specs.Contents.{count, contents_tests}
 use Rattle.files.specs.Files.{row_count, file_tests}
 use Rattle.compare.specs.declared.Change.{Change}

@@ -12,7 +12,7 @@
 
 mod text;
 
-ghost use Rattle.std.specs.Prelude.{true, ◌≡◌, ◌+◌, ◌≤◌, ◌<◌, min, length};
+ghost use Rattle.std.specs.Prelude.{true, ◌≡◌, ◌+◌, ◌≤◌, ◌<◌, min, length, Err};
 ghost use Rattle.lists.specs.Tab.{over};
 ghost use Rattle.places.specs.Sizes.{largest_u64};
 ghost use Rattle.compare.specs.Changes.{differing as differing_in, changes_in};
@@ -23,7 +23,7 @@ ghost use Rattle.listing.specs.Machine.{turn_of, turn_to, refusal, start_of, mos
 
 use bodywise::{Body, body_at, check_block, first, front_length, held_block, row_count, step};
 use compare::{blocks_in_both, change_at, differing, same_range};
-use contents::{Entry, FileAnswer, count, entry_or, has_right_entry};
+use contents::{Entry, FileRefusal, count, entry_or, has_right_entry};
 use text::{put_change, put_last, put_refusal};
 use wishes::{Part, Side, Wish};
 
@@ -172,12 +172,12 @@ fn turn_to(state: State, stage: Stage, wish: Wish) -> Turn
 }
 
 // A file is refused: its line is the last one.
-fn refuse(state: State, side: Side, answer: FileAnswer, out: &mut [u8]) -> Turn
+fn refuse(state: State, side: Side, reason: FileRefusal, out: &mut [u8]) -> Turn
     requires { 65536 ≤ length out.old }
-    ensures value { result ≡ turn_of (refusal state side answer out.old) }
-    ensures out_after { out.new ≡ (refusal state side answer out.old).out }
+    ensures value { result ≡ turn_of (refusal state side (Err reason) out.old) }
+    ensures out_after { out.new ≡ (refusal state side (Err reason) out.old).out }
 {
-    let line = put_refusal(side, answer, out);
+    let line = put_refusal(side, reason, out);
     turn_to(state, Stage::End, Wish::Write(line))
 }
 
@@ -240,9 +240,8 @@ fn check_front(state: State, side: Side, size: usize, front: &[u8], out: &mut [u
     ensures value { result ≡ turn_of (check_front state side size front.now out.old) }
     ensures out_after { out.new ≡ (check_front state side size front.now out.old).out }
 {
-    let answer = contents::check(front, size);
-    if answer.number() != 0 {
-        return refuse(state, side, answer, out);
+    if let Err(reason) = contents::check(front, size) {
+        return refuse(state, side, reason, out);
     }
     go_to(state, side, front, first(front))
 }
@@ -292,9 +291,8 @@ fn check_body(
     ensures out_after { out.new
         ≡ (check_body state side at front.now body.now out.old).out }
 {
-    let answer = step(FileAnswer::Done, front, state.number, body);
-    if answer.number() != 0 {
-        return refuse(state, side, answer, out);
+    if let Err(reason) = step(Ok(()), front, state.number, body) {
+        return refuse(state, side, reason, out);
     }
     let checked = body_at(front, state.number, at);
     go_to(state, side, front, bodywise::next(front, checked))
@@ -511,9 +509,8 @@ fn pass_same(
         ≡ (same_laid state left_front.now right_front.now left_body.now
         out.old).out }
 {
-    let answer = bodywise::check_body(left_front, state.number, left_body);
-    if answer.number() != 0 {
-        return refuse(state, Side::Left, answer, out);
+    if let Err(reason) = bodywise::check_body(left_front, state.number, left_body) {
+        return refuse(state, Side::Left, reason, out);
     }
     let there = past(state, left_front, right_front);
     between(there, plus(state.differences, 0), 0)
@@ -543,13 +540,11 @@ fn lay_both(
         ≡ (both_laid state left_front.now right_front.now left_body.now
         right_body.now out.old).out }
 {
-    let answer = held_block(left_front, state.number, left_body, left);
-    if answer.number() != 0 {
-        return refuse(state, Side::Left, answer, out);
+    if let Err(reason) = held_block(left_front, state.number, left_body, left) {
+        return refuse(state, Side::Left, reason, out);
     }
-    let answer = held_block(right_front, state.number, right_body, right);
-    if answer.number() != 0 {
-        return refuse(state, Side::Right, answer, out);
+    if let Err(reason) = held_block(right_front, state.number, right_body, right) {
+        return refuse(state, Side::Right, reason, out);
     }
     compare_laid(state, left_front, right_front, left, right, places, out)
 }
@@ -598,10 +593,8 @@ fn same_bytes(a: &[u8], b: &[u8]) -> bool
         return false;
     }
     let mut any: u8 = 0;
-    let mut i = 0;
-    while i < a.len() {
+    for i in 0..a.len() {
         any = any | (a[i] ^ b[i]);
-        i += 1;
     }
     any == 0
 }
@@ -630,20 +623,17 @@ fn compare_laid(
         ≡ (compared state left_front.now right_front.now left.now
         right.now out.old).out }
 {
-    let compared = differing(left, right, places);
-    let n = compared.count();
+    let n = differing(left, right, places).unwrap_or(0);
     if n == 0 {
         if same_range(left_front, right_front, state.number) {
             return list(state, left_front, right_front, left, right, places, n, out);
         }
     }
-    let answer = check_block(left_front, state.number, left);
-    if answer.number() != 0 {
-        return refuse(state, Side::Left, answer, out);
+    if let Err(reason) = check_block(left_front, state.number, left) {
+        return refuse(state, Side::Left, reason, out);
     }
-    let answer = check_block(right_front, state.number, right);
-    if answer.number() != 0 {
-        return refuse(state, Side::Right, answer, out);
+    if let Err(reason) = check_block(right_front, state.number, right) {
+        return refuse(state, Side::Right, reason, out);
     }
     list(state, left_front, right_front, left, right, places, n, out)
 }
@@ -699,11 +689,9 @@ fn put_lines(i: u16, left: &[u64], right: &[u64], places: &[u16], n: usize, out:
         ≡ over 0 (lines_of (changes_in i left.now right.now)) out.old }
 {
     let mut at = 0;
-    let mut k = 0;
-    while k < n {
+    for k in 0..n {
         let next = put_change(change_at(i, left, right, places[k]), out, at);
         at = next;
-        k += 1;
     }
     at
 }

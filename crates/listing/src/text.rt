@@ -1,10 +1,10 @@
 // The lines of R118 to R121, laid into the output. Each call gives the place behind what it laid.
-ghost use Rattle.std.specs.Prelude.{◌≡◌, ◌+◌, ◌≤◌, length};
+ghost use Rattle.std.specs.Prelude.{◌≡◌, ◌+◌, ◌≤◌, length, Err};
 ghost use Rattle.lists.specs.Tab.{over};
 ghost use Rattle.listing.specs.Text.{field_of, refused_text, refusal_line, change_line, rows_line, last_lines};
 
 use compare::Change;
-use contents::FileAnswer;
+use contents::FileRefusal;
 use wishes::Side;
 
 // A text, from a place on.
@@ -13,12 +13,10 @@ fn put_text(text: &[u8], out: &mut [u8], at: usize) -> usize
     ensures value { result ≡ at + length text.now }
     ensures out_after { out.new ≡ over at text.now out.old }
 {
-    let mut i = 0;
-    while i < text.len() {
-        out[at + i] = text[i];
-        i += 1;
+    for (i, byte) in text.iter().enumerate() {
+        out[at + i] = *byte;
     }
-    at + i
+    at + text.len()
 }
 
 // A number in decimal and the byte that ends it, from a place on.
@@ -44,14 +42,14 @@ pub fn put_change(change: Change, out: &mut [u8], at: usize) -> usize
 }
 
 // The line of a file that is refused, at the front.
-pub fn put_refusal(side: Side, answer: FileAnswer, out: &mut [u8]) -> usize
+pub fn put_refusal(side: Side, reason: FileRefusal, out: &mut [u8]) -> usize
     requires { 64 ≤ length out.old }
-    ensures value { result ≡ length (refusal_line side answer) }
-    ensures out_after { out.new ≡ over 0 (refusal_line side answer) out.old }
+    ensures value { result ≡ length (refusal_line side (Err reason)) }
+    ensures out_after { out.new ≡ over 0 (refusal_line side (Err reason)) out.old }
 {
     let second = put_refused(side, out);
-    let third = put_field(answer.number() as u64, b' ', out, second);
-    put_field(answer.place() as u64, b'\n', out, third)
+    let third = put_field(reason.number() as u64, b' ', out, second);
+    put_field(reason.place() as u64, b'\n', out, third)
 }
 
 // Its words.

@@ -11,23 +11,23 @@ use native.Mathlib.Omega.{arith}
 use lib.Dec.{eqb, ltb}
 use lib.ListN.{length, get_or}
 use borrow.Author.Tests.{eq-eqb, ne_eqb, eqb-true, eqb-false, ltb-true}
+use Rattle.std.specs.Prelude.{Ok, Err}
 use Rattle.lists.specs.Members.{Stands}
 use Rattle.lists.specs.Pick.{either, fails}
 use Rattle.lists.specs.Search.{first_bad}
 use Rattle.lists.proofs.Search.{first_le, first-at, first-before, first_only}
 use Rattle.lists.proofs.Tests.{either_true, false-true, not_then}
-use Rattle.contents.specs.declared.FileAnswer.TheVariants.{Done, Room}
+use Rattle.contents.specs.declared.FileRefusal.TheVariants.{Room}
 use Rattle.contents.specs.Answers as Answers
 use Rattle.contents.specs.Answers.{file_answer}
 use Rattle.contents.proofs.Answers as Files
 use Rattle.files.specs.Files.{row_at, row_count, file_tests}
 use Rattle.files.specs.Reasons.{Reason}
 use Rattle.files.proofs.Exactly.{reason_gives, file_exactly}
-use Rattle.renumber.specs.declared.RenumberAnswer.{RenumberAnswer}
-use Rattle.renumber.specs.declared.RenumberAnswer.TheVariants.{File, Lengths, Unrising, Disordered, Twice, Taken}
+use Rattle.renumber.specs.declared.RenumberRefusal.TheVariants.{File, Lengths, Unrising, Disordered, Twice, Taken}
 use Rattle.renumber.specs.Pairs.{is_in, is_free, rises_at, unrising_at, is_ordered_at, disordered_at, is_apart, is_alone, twice_at}
 use Rattle.renumber.specs.Reasons.{OneLength, RisesAt, OrderedAt, Alone, Free, ListsRight, RenumberReason, of_file, other_lengths, unrising, disordered, twice, taken, short_output, room_there}
-use Rattle.renumber.specs.Renumber.{new_file, taken_at, list_answer, renumber_answer}
+use Rattle.renumber.specs.Renumber.{RenumberAnswer, from_file, new_file, taken_at, list_answer, renumber_answer}
 use Rattle.renumber.proofs.Calls.{file-stops, lists_stop, row-stops, room-stops, nothing_stops}
 use Rattle.renumber.proofs.Lists.{is-behind, lengths-new, lengths-order, old_unrising, order-disordered, new-twice, lists-done}
 use Rattle.renumber.proofs.Places.{in_stands, stands_in, stands-out}
@@ -155,7 +155,7 @@ module _ (l old new order output : List ℕ) where
   unfolding taken_at
   free_there all = none-fails (row_count l) (λ p. is_free old new (row_at l p)) (λ i h. free-tested old new (row_at l i) (all i h))
 
-  pub lists-right : ListsRight old new order → list_answer old new order ≡ File Done
+  pub lists-right : ListsRight old new order → list_answer old new order ≡ Ok tt
   lists-right r =
       sym (lists-done old new order r.lengths.0 r.lengths.1 (rise_there r.rises) (order_there r.ordered) (alone_there r.alone))
 
@@ -164,27 +164,27 @@ module _ (l old new order output : List ℕ) where
   unfolding unrising_at disordered_at twice_at taken_at
   gives (of_file a other r) = file-stops l old new order output a (sym (reason_gives l r)) (λ z. other (Files.number-done a z))
   gives (other_lengths r n) =
-      lists_stop l old new order output (reason_gives l r) Lengths
+      lists_stop l old new order output (reason_gives l r) (Err Lengths)
       (elim (ℕ_discrete (length new) (length old)) [
         | yes e ↦ lengths-order old new order e (λ o. n (e, o))
         | no m ↦ lengths-new old new order m
       ])
       (λ z. omega arith)
   gives (unrising p r o h some low before) =
-      lists_stop l old new order output (reason_gives l r) (Unrising p)
+      lists_stop l old new order output (reason_gives l r) (Err (Unrising p))
       (old_unrising old new order o.0 o.1 p
       (first_only (length old) p (rises_at old) (omega arith) (λ i b. rises-tested old i (before i b)) (λ _. rises-not old p some low))
       h)
       (λ z. omega arith)
   gives (disordered p r o all h bad before) =
-      lists_stop l old new order output (reason_gives l r) (Disordered p)
+      lists_stop l old new order output (reason_gives l r) (Err (Disordered p))
       (order-disordered old new order o.0 o.1 (rise_there all) p
       (first_only (length order) p (is_ordered_at new order) (omega arith) (λ i b. ordered-tested new order i (before i b))
       (λ _. not_then (is_ordered_at new order p) (λ e. bad (tested-ordered new order p e))))
       h)
       (λ z. omega arith)
   gives (twice p q r o all ord h m other same before) =
-      lists_stop l old new order output (reason_gives l r) (Twice p)
+      lists_stop l old new order output (reason_gives l r) (Err (Twice p))
       (new-twice old new order o.0 o.1 (rise_there all) (order_there ord) p
       (first_only (length new) p (is_alone new) (omega arith) (λ i b. alone-is new i (before i b)) (λ _. alone-not new p q m other same))
       h)
@@ -201,15 +201,15 @@ module _ (l old new order output : List ℕ) where
   Answered : Type 0
   Answered = (a : RenumberAnswer) × RenumberReason l old new order output a
 
-  by_room : Reason l Done → ListsRight old new order → ((i : ℕ) → i < row_count l → Free old new (row_at l i)) → Answered
+  by_room : Reason l (Ok tt) → ListsRight old new order → ((i : ℕ) → i < row_count l → Free old new (row_at l i)) → Answered
   unfolding Answered
   by_room r lists free =
       elim (dec_le (length (new_file old new l)) (length output)) [
-        | yes room ↦ (File Done, room_there r lists free room)
-        | no short ↦ (File Room, short_output r lists free (omega arith))
+        | yes room ↦ (Ok tt, room_there r lists free room)
+        | no short ↦ (Err (File Room), short_output r lists free (omega arith))
       ]
 
-  by_rows : Reason l Done → ListsRight old new order → Answered
+  by_rows : Reason l (Ok tt) → ListsRight old new order → Answered
   unfolding Answered
   by_rows r lists =
       let test : ℕ → Bool = λ p. is_free old new (row_at l p) in
@@ -217,11 +217,11 @@ module _ (l old new order output : List ℕ) where
       elim (dec_lt p (row_count l)) [
         | yes h ↦
             let at = tested-taken old new (row_at l p) (first-at (row_count l) test h) in
-            (Taken p, taken p r lists h at.0 at.1 (λ i b. tested-free old new (row_at l i) (first-before (row_count l) test i b)))
+            (Err (Taken p), taken p r lists h at.0 at.1 (λ i b. tested-free old new (row_at l i) (first-before (row_count l) test i b)))
         | no h ↦ by_room r lists (λ i b. tested-free old new (row_at l i) (first-before (row_count l) test i (omega arith)))
       ]
 
-  by_new : Reason l Done → OneLength old new order → ((i : ℕ) → i < length old → RisesAt old i)
+  by_new : Reason l (Ok tt) → OneLength old new order → ((i : ℕ) → i < length old → RisesAt old i)
       → ((i : ℕ) → i < length order → OrderedAt new order i) → Answered
   unfolding Answered
   by_new r o all ord =
@@ -229,22 +229,22 @@ module _ (l old new order output : List ℕ) where
       elim (dec_lt p (length new)) [
         | yes h ↦
             let two = tested-twice new p (first-at (length new) (is_alone new) h) in
-            (Twice p, twice p two.0 r o all ord h two.1 two.2 two.3 (λ i b. tested-alone new i (first-before (length new) (is_alone new) i b)))
+            (Err (Twice p), twice p two.0 r o all ord h two.1 two.2 two.3 (λ i b. tested-alone new i (first-before (length new) (is_alone new) i b)))
         | no h ↦ by_rows r
             (record { lengths = o; rises = all; ordered = ord; alone = λ i b. tested-alone new i (first-before (length new) (is_alone new) i (omega arith)) })
       ]
 
-  by_order : Reason l Done → OneLength old new order → ((i : ℕ) → i < length old → RisesAt old i) → Answered
+  by_order : Reason l (Ok tt) → OneLength old new order → ((i : ℕ) → i < length old → RisesAt old i) → Answered
   unfolding Answered
   by_order r o all =
       let p : ℕ = first_bad (length order) (is_ordered_at new order) in
       let right : (i : ℕ) → i < p → OrderedAt new order i = λ i b. tested-ordered new order i (first-before (length order) (is_ordered_at new order) i b) in
       elim (dec_lt p (length order)) [
-        | yes h ↦ (Disordered p, disordered p r o all h (tested-disordered new order p (first-at (length order) (is_ordered_at new order) h)) right)
+        | yes h ↦ (Err (Disordered p), disordered p r o all h (tested-disordered new order p (first-at (length order) (is_ordered_at new order) h)) right)
         | no h ↦ by_new r o all (λ i b. right i (omega arith))
       ]
 
-  by_old : Reason l Done → OneLength old new order → Answered
+  by_old : Reason l (Ok tt) → OneLength old new order → Answered
   unfolding Answered
   by_old r o =
       let p : ℕ = first_bad (length old) (rises_at old) in
@@ -252,18 +252,18 @@ module _ (l old new order output : List ℕ) where
       elim (dec_lt p (length old)) [
         | yes h ↦
             let at = tested_falls old p (first-at (length old) (rises_at old) h) in
-            (Unrising p, unrising p r o h at.0 at.1 right)
+            (Err (Unrising p), unrising p r o h at.0 at.1 right)
         | no h ↦ by_order r o (λ i b. right i (omega arith))
       ]
 
-  by_lengths : Reason l Done → Answered
+  by_lengths : Reason l (Ok tt) → Answered
   unfolding Answered
   by_lengths r =
       elim (ℕ_discrete (length new) (length old)) [
-        | no n ↦ (Lengths, other_lengths r (λ o. n o.0))
+        | no n ↦ (Err Lengths, other_lengths r (λ o. n o.0))
         | yes e ↦
             elim (ℕ_discrete (length order) (length old)) [
-              | no n ↦ (Lengths, other_lengths r (λ o. n o.1))
+              | no n ↦ (Err Lengths, other_lengths r (λ o. n o.1))
               | yes m ↦ by_old r (e, m)
             ]
       ]
@@ -273,10 +273,10 @@ module _ (l old new order output : List ℕ) where
   reason =
       elim (ℕ_discrete (Answers.number_of (file_answer (file_tests l))) 0) [
         | no bad ↦ (
-          File (file_answer (file_tests l)),
+          from_file (file_answer (file_tests l)),
           of_file (file_answer (file_tests l)) (λ e. bad (ap Answers.number_of e)) ((file_exactly l (file_answer (file_tests l))).0 refl),
         )
-        | yes z ↦ by_lengths ((file_exactly l Done).0 (Files.number-done (file_answer (file_tests l)) z))
+        | yes z ↦ by_lengths ((file_exactly l (Ok tt)).0 (Files.number-done (file_answer (file_tests l)) z))
       ]
 
   -- Each answer is given exactly when there is the reason for it.

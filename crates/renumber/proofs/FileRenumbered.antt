@@ -3,30 +3,31 @@
 -- changes of the old file and the new one are exactly these rows; and no block is too narrow. A refused call leaves the
 -- output as it was, and empty lists leave every row as it is.
 -- Assumes nothing.
-use mathlib.Core.Bool.{Bool, true, false}
+use mathlib.Core.Bool.{true}
 use mathlib.Core.List.{List, [], map}
 use mathlib.Core.Logic.{◌↔◌, ◌≢◌, inr}
 use mathlib.Core.Path.{◌≡◌, refl, sym, ap, subst, ◌∙◌}
 use Prim.Native.Nat.{ℕ, ◌^◌, ◌≤◌, ◌<◌}
 use native.Mathlib.Decide.{dec_lt, dec_le, ℕ_discrete}
 use native.Mathlib.Omega.{arith}
-use borrow.Author.Tests.{eq-eqb}
+use borrow.Author.Tests.{eq-eqb, ne_eqb}
 use lib.Dec.{eqb}
 use lib.ListN.{length, get_or, take, drop, length-map}
 use lib.Seq.{ext_get_or}
+use Rattle.std.specs.Prelude.{Ok, Err}
 use Rattle.lists.specs.Members.{Stands, Rising}
 use Rattle.lists.specs.Numbers.{Elements}
 use Rattle.lists.specs.Passing.{failing_from}
 use Rattle.lists.specs.Pick.{pick}
+use Rattle.lists.specs.Tab.{over}
 use Rattle.lists.proofs.Digits.{elements-of}
 use Rattle.lists.proofs.Failing.{failing_ext, failing_none, map_failing}
 use Rattle.lists.proofs.Overs.{over-front, over-rest}
 use Rattle.lists.proofs.Tabs.{get_d_tab}
 use Rattle.places.specs.Sizes.{t64, lanes}
 use Rattle.contents.specs.declared.Entry.{Entry}
-use Rattle.contents.specs.declared.FileAnswer.TheVariants.{Done}
 use Rattle.contents.specs.Answers as Answers
-use Rattle.contents.specs.Answers.{file_answer}
+use Rattle.contents.specs.Answers.{answer_of, file_answer}
 use Rattle.contents.specs.Contents.{edition, count, entry_of}
 use Rattle.contents.proofs.Answers as Files
 use Rattle.bodies.specs.Bodies.{block_of, words_from}
@@ -41,15 +42,13 @@ use Rattle.writer.proofs.FileWritten.{block_least}
 use Rattle.writer.proofs.ReadBack.{edition-is, count-is, entry_read, file-accepted, rows-read}
 use Rattle.compare.specs.Changes.{rows_in_both, is_same_row, change_of, changes_of}
 use Rattle.compare.proofs.Lists.{get_d_map_in}
-use Rattle.renumber.specs.declared.RenumberAnswer.{RenumberAnswer}
-use Rattle.renumber.specs.declared.RenumberAnswer.TheVariants.{File}
-use Rattle.renumber.specs.declared.Renumbered.TheVariants.{Length, Refused}
 use Rattle.renumber.specs.InnerBlocks.{new_block}
 use Rattle.renumber.specs.InnerPairs.{Paired}
+use Rattle.contents.proofs.Answers.{says_answer}
 use Rattle.renumber.specs.Pairs.{place_in, renumbered, is_free}
-use Rattle.renumber.specs.Renumber.{number_of, is_done, new_rows, new_file, changed_rows, taken_at, list_answer, renumber_answer, renumbered_of, renumber_leaves, answer_of, length_of, changed_of}
+use Rattle.renumber.specs.Renumber.{RenumberAnswer, sizes, number_of, new_rows, new_file, changed_rows, taken_at, list_answer, renumber_answer, renumbered_of, renumber_leaves, length_of, changed_of, refusal_number, given_by, left_by}
 use Rattle.renumber.proofs.Becoming.{becomes_new, stays}
-use Rattle.renumber.proofs.Calls.{refused, file-stops, lists_stop, row-stops, room-stops, written, taken_le}
+use Rattle.renumber.proofs.Calls.{same-number, file-stops, lists_stop, row-stops, room-stops, written, taken_le}
 use Rattle.renumber.proofs.Exactly.{none-fails, free-tested}
 use Rattle.renumber.proofs.Lists.{number-done, lists-taken, lists_paired, lists-done}
 use Rattle.renumber.proofs.Places.{place_is, place_only}
@@ -66,22 +65,22 @@ row_is l p h = get_d_tab (row_count l) (row_at l) p 0 h
 module _ (l old new order output : List ℕ) where
   -- Nothing stood in the way.
   pub record AllTaken : Type 0 where
-    pub file : file_answer (file_tests l) ≡ Done
-    pub lists : list_answer old new order ≡ File Done
+    pub file : file_answer (file_tests l) ≡ Ok tt
+    pub lists : list_answer old new order ≡ Ok tt
     pub free : taken_at old new l ≡ row_count l
     pub room : length (new_file old new l) ≤ length output
 
-  pub all_taken : renumber_answer l old new order output ≡ File Done → AllTaken
+  pub all_taken : renumber_answer l old new order output ≡ Ok tt → AllTaken
   all_taken e = record { file = file; lists = lists; free = free; room = room }
     where
-      file : file_answer (file_tests l) ≡ Done
+      file : file_answer (file_tests l) ≡ Ok tt
       file =
           elim (ℕ_discrete (Answers.number_of (file_answer (file_tests l))) 0) [
             | yes z ↦ Files.number-done (file_answer (file_tests l)) z
-            | no n ↦ absurd (n (ap number_of (sym (file-stops l old new order output (file_answer (file_tests l)) refl n) ∙ e)))
+            | no n ↦ absurd (n (sym (same-number (file_answer (file_tests l))) ∙ ap number_of (sym (file-stops l old new order output (file_answer (file_tests l)) refl n) ∙ e)))
           ]
 
-      lists : list_answer old new order ≡ File Done
+      lists : list_answer old new order ≡ Ok tt
       lists =
           elim (ℕ_discrete (number_of (list_answer old new order)) 0) [
             | yes z ↦ number-done (list_answer old new order) z
@@ -114,26 +113,36 @@ module _ (l old new order output : List ℕ) where
         → (length_of (renumbered_of l old new order output) ≡ 0)
         × (changed_of (renumbered_of l old new order output) ≡ 0)
         × (renumber_leaves l old new order output ≡ output)
-    pub whole : renumber_answer l old new order output ≡ File Done
+    pub whole : renumber_answer l old new order output ≡ Ok tt
         → (length_of (renumbered_of l old new order output) ≡ length (new_file old new l))
         × (changed_of (renumbered_of l old new order output) ≡ length (changed_rows old new l))
-    pub front : renumber_answer l old new order output ≡ File Done
+    pub front : renumber_answer l old new order output ≡ Ok tt
         → take (length (new_file old new l)) (renumber_leaves l old new order output) ≡ new_file old new l
-    pub behind : renumber_answer l old new order output ≡ File Done
+    pub behind : renumber_answer l old new order output ≡ Ok tt
         → drop (length (new_file old new l)) (renumber_leaves l old new order output) ≡ drop (length (new_file old new l)) output
+
+  nothing-given : (number_of (renumber_answer l old new order output) ≡ 0 → ⊥)
+      → (length_of (renumbered_of l old new order output) ≡ 0)
+      × (changed_of (renumbered_of l old new order output) ≡ 0)
+      × (renumber_leaves l old new order output ≡ output)
+  unfolding renumbered_of renumber_leaves
+  nothing-given n = go (renumber_answer l old new order output) n
+    where
+      go : (a : RenumberAnswer) → (number_of a ≡ 0 → ⊥)
+          → (length_of (given_by a (new_file old new l) (length (changed_rows old new l))) ≡ 0)
+          × (changed_of (given_by a (new_file old new l) (length (changed_rows old new l))) ≡ 0)
+          × (left_by a (new_file old new l) output ≡ output)
+      go (Ok _) n = absurd (n refl)
+      go (Err r) n = (refl, refl, ap (λ b. pick b (over 0 (new_file old new l) output) output) (ne_eqb (refusal_number r) 0 n))
+
+  answer-given : answer_of (renumbered_of l old new order output) ≡ renumber_answer l old new order output
+  unfolding renumbered_of
+  answer-given = says_answer (renumber_answer l old new order output) (sizes (length (new_file old new l)) (length (changed_rows old new l)))
 
   pub renumber-outcome : Outcome
   renumber-outcome = record {
-    answers =
-        elim (ℕ_discrete (number_of (renumber_answer l old new order output)) 0) [
-          | yes z ↦
-              let e = number-done (renumber_answer l old new order output) z in
-              sym (ap answer_of (written l old new order output e).0) ∙ sym e
-          | no n ↦ sym (ap answer_of (refused l old new order output (renumber_answer l old new order output) refl n).0)
-        ];
-    nothing = λ n.
-        let by = refused l old new order output (renumber_answer l old new order output) refl n in
-        (sym (ap length_of by.0), sym (ap changed_of by.0), sym by.1);
+    answers = answer-given;
+    nothing = nothing-given;
     whole = λ e. let by = written l old new order output e in (sym (ap length_of by.0), sym (ap changed_of by.0));
     front = λ e. sym (ap (take (length (new_file old new l))) (written l old new order output e).1) ∙ over-front (new_file old new l) output;
     behind = λ e. sym (ap (drop (length (new_file old new l))) (written l old new order output e).1) ∙ over-rest (new_file old new l) output;
@@ -149,14 +158,14 @@ becomes_small old new news x small =
       | no h ↦ subst (λ y. y < 2 ^ t64) (stays old new x (place_in old x) refl (omega arith)) small
     ]
 
-module _ (old new l : List ℕ) (bytes : Elements 8 l) (news : Elements t64 new) (done : file_answer (file_tests l) ≡ Done) where
+module _ (old new l : List ℕ) (bytes : Elements 8 l) (news : Elements t64 new) (done : file_answer (file_tests l) ≡ Ok tt) where
   pub new-fits : Elements t64 (new_rows old new l)
   new-fits =
       elements-of t64 (length (rows_of l)) (new_rows old new l) (length-rows old new l)
       (λ p h. subst (λ v. v < 2 ^ t64) (sym (get_d_rows old new l p h)) (becomes_small old new news (get_or (rows_of l) p 0) (rows_fit l bytes done p)))
 
   -- The new file is accepted, it is of edition 2 and has as many blocks,
-  pub new-accepted : file_answer (file_tests (new_file old new l)) ≡ Done
+  pub new-accepted : file_answer (file_tests (new_file old new l)) ≡ Ok tt
   new-accepted = file-accepted (new_rows old new l) (count l) (rows_long old new l) (Old.few l done) new-fits
 
   pub new-edition : edition (new_file old new l) ≡ 2
@@ -240,7 +249,7 @@ module _ (old new l : List ℕ) (bytes : Elements 8 l) (news : Elements t64 new)
         block_least (new_rows old new l) (record { n = count l; whole = rows_long old new l; few = Old.few l done }) new-fits i h e body kind reference (λ k. base k ∙ ap base_of (sym at)) (same ∙ sym at)
 
 -- A call that is done counts exactly the rows that `changes` lists.
-pub counts_changes : (l old new order output : List ℕ) → Elements 8 l → Elements t64 new → renumber_answer l old new order output ≡ File Done
+pub counts_changes : (l old new order output : List ℕ) → Elements 8 l → Elements t64 new → renumber_answer l old new order output ≡ Ok tt
     → changed_of (renumbered_of l old new order output) ≡ length (changes_of l (new_file old new l))
 counts_changes l old new order output bytes news e =
     ((renumber-outcome l old new order output).whole e).1 ∙ sym (changes_many old new l bytes news (all_taken l old new order output e).file)
@@ -275,15 +284,15 @@ module _ (l : List ℕ) where
       free x = free-tested [] [] x (inr (λ s. omega (arith, s.1)))
 
 -- and the lists are not refused.
-pub empty_lists : list_answer [] [] [] ≡ File Done
+pub empty_lists : list_answer [] [] [] ≡ Ok tt
 empty_lists =
     sym (lists-done [] [] [] refl refl (omega (arith, unrising_le [])) (omega (arith, disordered_le [] [])) (omega (arith, twice_le [])))
 
 -- So the count is 0, whatever the answer is.
 pub empty_counts : (l output : List ℕ) → changed_of (renumbered_of l [] [] [] output) ≡ 0
 unfolding renumbered_of
-empty_counts l output = go (is_done (renumber_answer l [] [] [] output)) (renumber_answer l [] [] [] output)
+empty_counts l output = go (renumber_answer l [] [] [] output)
   where
-    go : (b : Bool) (a : RenumberAnswer) → changed_of (pick b (Length (length (new_file [] [] l)) (length (changed_rows [] [] l))) (Refused a)) ≡ 0
-    go true a = ap length (empty_changed l)
-    go false a = refl
+    go : (a : RenumberAnswer) → changed_of (given_by a (new_file [] [] l) (length (changed_rows [] [] l))) ≡ 0
+    go (Ok _) = ap length (empty_changed l)
+    go (Err r) = refl

@@ -11,19 +11,19 @@ use native.Mathlib.Omega.{arith}
 use lib.Dec.{eqb, ltb}
 use lib.ListN.{length, get_or}
 use borrow.Author.Tests.{eq-eqb, ne_eqb, eqb-true, lt-ltb, ltb-true}
+use Rattle.std.specs.Prelude.{Ok, Err}
 use Rattle.lists.specs.Members.{Rising}
 use Rattle.lists.specs.Pick.{pick, both, either}
 use Rattle.lists.specs.Tests.{Test}
 use Rattle.lists.proofs.Answers.{first-passed}
 use Rattle.lists.proofs.Search.{first-before}
 use Rattle.lists.proofs.Tests.{both_true, either_true, false-true}
-use Rattle.contents.specs.declared.FileAnswer.TheVariants.{Done}
 use Rattle.contents.proofs.Answers as Answers
-use Rattle.renumber.specs.declared.RenumberAnswer.{RenumberAnswer}
-use Rattle.renumber.specs.declared.RenumberAnswer.TheVariants.{File, Lengths, Unrising, Disordered, Twice, Taken}
+use Rattle.renumber.specs.declared.RenumberRefusal.{RenumberRefusal}
+use Rattle.renumber.specs.declared.RenumberRefusal.TheVariants.{File, Lengths, Unrising, Disordered, Twice, Taken}
 use Rattle.renumber.specs.InnerPairs.{Ordered, Paired}
 use Rattle.renumber.specs.Pairs.{rises_at, unrising_at, is_behind, is_ordered_at, disordered_at, is_alone, twice_at, along}
-use Rattle.renumber.specs.Renumber.{number_of, list_answer}
+use Rattle.renumber.specs.Renumber.{RenumberAnswer, refusal_number, number_of, list_answer}
 use Rattle.renumber.proofs.Tested.{length-along, get_d_along, ordered_there}
 use Rattle.renumber.proofs.Twins.{behind-is, falls_not, equal_rise, alone-not}
 
@@ -111,72 +111,77 @@ rising-along {new} {order} o none i j h m =
 
 -- ---- the answer
 
--- Done is the answer with number 0.
-pub number-done : (a : RenumberAnswer) → number_of a ≡ 0 → a ≡ File Done
-number-done (File a) e = ap File (Answers.number-done a e)
-number-done Lengths e = absurd (omega arith)
-number-done (Unrising p) e = absurd (omega arith)
-number-done (Disordered p) e = absurd (omega arith)
-number-done (Twice p) e = absurd (omega arith)
-number-done (Taken p) e = absurd (omega arith)
+-- No refusal has number 0,
+pub refusal_numbered : (r : RenumberRefusal) → refusal_number r ≡ 0 → ⊥
+refusal_numbered (File r) e = Answers.refusal_numbered r e
+refusal_numbered Lengths e = omega arith
+refusal_numbered (Unrising p) e = omega arith
+refusal_numbered (Disordered p) e = omega arith
+refusal_numbered (Twice p) e = omega arith
+refusal_numbered (Taken p) e = omega arith
 
-other : (a : RenumberAnswer) → (number_of a ≡ 0 → ⊥) → a ≡ File Done → ⊥
+-- so the answer with number 0 is that the call is done.
+pub number-done : (a : RenumberAnswer) → number_of a ≡ 0 → a ≡ Ok tt
+number-done (Ok _) e = refl
+number-done (Err r) e = absurd (refusal_numbered r e)
+
+other : (a : RenumberAnswer) → (number_of a ≡ 0 → ⊥) → a ≡ Ok tt → ⊥
 other a n e = n (ap number_of e)
 
 module _ (old new order : List ℕ) where
   -- The answer behind each test.
   abbrev behind-order : RenumberAnswer
-  behind-order = pick (eqb (twice_at new) (length new)) (File Done) (Twice (twice_at new))
+  behind-order = pick (eqb (twice_at new) (length new)) (Ok tt) (Err (Twice (twice_at new)))
 
   abbrev behind_old : RenumberAnswer
-  behind_old = pick (eqb (disordered_at new order) (length order)) behind-order (Disordered (disordered_at new order))
+  behind_old = pick (eqb (disordered_at new order) (length order)) behind-order (Err (Disordered (disordered_at new order)))
 
   abbrev behind-lengths : RenumberAnswer
-  behind-lengths = pick (eqb (unrising_at old) (length old)) behind_old (Unrising (unrising_at old))
+  behind-lengths = pick (eqb (unrising_at old) (length old)) behind_old (Err (Unrising (unrising_at old)))
 
   -- 18: the lists are not of one length.
-  pub lengths-new : (length new ≡ length old → ⊥) → Lengths ≡ list_answer old new order
+  pub lengths-new : (length new ≡ length old → ⊥) → Err Lengths ≡ list_answer old new order
   unfolding list_answer
-  lengths-new n = sym (ap (λ b. pick (both b (eqb (length order) (length old))) behind-lengths Lengths) (ne_eqb _ _ n))
+  lengths-new n = sym (ap (λ b. pick (both b (eqb (length order) (length old))) behind-lengths (Err Lengths)) (ne_eqb _ _ n))
 
   module _ (new_long : length new ≡ length old) where
-    pub lengths-order : (length order ≡ length old → ⊥) → Lengths ≡ list_answer old new order
+    pub lengths-order : (length order ≡ length old → ⊥) → Err Lengths ≡ list_answer old new order
     unfolding list_answer
-    lengths-order n = sym (ap₂ (λ a b. pick (both a b) behind-lengths Lengths) (eq-eqb _ _ new_long) (ne_eqb _ _ n))
+    lengths-order n = sym (ap₂ (λ a b. pick (both a b) behind-lengths (Err Lengths)) (eq-eqb _ _ new_long) (ne_eqb _ _ n))
 
     module _ (order_long : length order ≡ length old) where
       lengths : list_answer old new order ≡ behind-lengths
       unfolding list_answer
-      lengths = ap₂ (λ a b. pick (both a b) behind-lengths Lengths) (eq-eqb _ _ new_long) (eq-eqb _ _ order_long)
+      lengths = ap₂ (λ a b. pick (both a b) behind-lengths (Err Lengths)) (eq-eqb _ _ new_long) (eq-eqb _ _ order_long)
 
       -- 19: an old number is not above the one before it.
-      pub old_unrising : (p : ℕ) → p ≡ unrising_at old → p < length old → Unrising p ≡ list_answer old new order
+      pub old_unrising : (p : ℕ) → p ≡ unrising_at old → p < length old → Err (Unrising p) ≡ list_answer old new order
       old_unrising p found some =
-          ap Unrising found
-          ∙ sym (lengths ∙ ap (λ b. pick b behind_old (Unrising (unrising_at old))) (ne_eqb (unrising_at old) (length old) (λ e. omega arith)))
+          ap (λ p. Err (Unrising p)) found
+          ∙ sym (lengths ∙ ap (λ b. pick b behind_old (Err (Unrising (unrising_at old)))) (ne_eqb (unrising_at old) (length old) (λ e. omega arith)))
 
       module _ (rises : unrising_at old ≡ length old) where
         rising-passed : list_answer old new order ≡ behind_old
-        rising-passed = lengths ∙ ap (λ b. pick b behind_old (Unrising (unrising_at old))) (eq-eqb _ _ rises)
+        rising-passed = lengths ∙ ap (λ b. pick b behind_old (Err (Unrising (unrising_at old)))) (eq-eqb _ _ rises)
 
         -- 20: a place of the order is wrong.
-        pub order-disordered : (p : ℕ) → p ≡ disordered_at new order → p < length order → Disordered p ≡ list_answer old new order
+        pub order-disordered : (p : ℕ) → p ≡ disordered_at new order → p < length order → Err (Disordered p) ≡ list_answer old new order
         order-disordered p found some =
-            ap Disordered found
-            ∙ sym (rising-passed ∙ ap (λ b. pick b behind-order (Disordered (disordered_at new order))) (ne_eqb (disordered_at new order) (length order) (λ e. omega arith)))
+            ap (λ p. Err (Disordered p)) found
+            ∙ sym (rising-passed ∙ ap (λ b. pick b behind-order (Err (Disordered (disordered_at new order)))) (ne_eqb (disordered_at new order) (length order) (λ e. omega arith)))
 
         module _ (ordered : disordered_at new order ≡ length order) where
           order-passed : list_answer old new order ≡ behind-order
-          order-passed = rising-passed ∙ ap (λ b. pick b behind-order (Disordered (disordered_at new order))) (eq-eqb _ _ ordered)
+          order-passed = rising-passed ∙ ap (λ b. pick b behind-order (Err (Disordered (disordered_at new order)))) (eq-eqb _ _ ordered)
 
           -- 21: a new number stands twice.
-          pub new-twice : (p : ℕ) → p ≡ twice_at new → p < length new → Twice p ≡ list_answer old new order
+          pub new-twice : (p : ℕ) → p ≡ twice_at new → p < length new → Err (Twice p) ≡ list_answer old new order
           new-twice p found some =
-              ap Twice found ∙ sym (order-passed ∙ ap (λ b. pick b (File Done) (Twice (twice_at new))) (ne_eqb (twice_at new) (length new) (λ e. omega arith)))
+              ap (λ p. Err (Twice p)) found ∙ sym (order-passed ∙ ap (λ b. pick b (Ok tt) (Err (Twice (twice_at new)))) (ne_eqb (twice_at new) (length new) (λ e. omega arith)))
 
           -- 0: nothing of that.
-          pub lists-done : twice_at new ≡ length new → File Done ≡ list_answer old new order
-          lists-done once = sym (order-passed ∙ ap (λ b. pick b (File Done) (Twice (twice_at new))) (eq-eqb _ _ once))
+          pub lists-done : twice_at new ≡ length new → Ok tt ≡ list_answer old new order
+          lists-done once = sym (order-passed ∙ ap (λ b. pick b (Ok tt) (Err (Twice (twice_at new)))) (eq-eqb _ _ once))
 
   -- What holds of lists that pass.
   pub record ListsTaken : Type 0 where
@@ -186,16 +191,16 @@ module _ (old new order : List ℕ) where
     pub ordered : disordered_at new order ≡ length order
     pub once : twice_at new ≡ length new
 
-  pub lists-taken : list_answer old new order ≡ File Done → ListsTaken
+  pub lists-taken : list_answer old new order ≡ Ok tt → ListsTaken
   unfolding list_answer
   lists-taken e =
-      let last : List (Test RenumberAnswer) = (eqb (twice_at new) (length new), Twice (twice_at new)) ∷ [] in
-      let later : List (Test RenumberAnswer) = (eqb (disordered_at new order) (length order), Disordered (disordered_at new order)) ∷ last in
-      let rest : List (Test RenumberAnswer) = (eqb (unrising_at old) (length old), Unrising (unrising_at old)) ∷ later in
-      let first = first-passed (File Done) (both (eqb (length new) (length old)) (eqb (length order) (length old)), Lengths) rest (other Lengths (λ z. omega arith)) e in
-      let second = first-passed (File Done) (eqb (unrising_at old) (length old), Unrising (unrising_at old)) later (other (Unrising (unrising_at old)) (λ z. omega arith)) first.1 in
-      let third = first-passed (File Done) (eqb (disordered_at new order) (length order), Disordered (disordered_at new order)) last (other (Disordered (disordered_at new order)) (λ z. omega arith)) second.1 in
-      let fourth = first-passed (File Done) (eqb (twice_at new) (length new), Twice (twice_at new)) [] (other (Twice (twice_at new)) (λ z. omega arith)) third.1 in
+      let last : List (Test RenumberAnswer) = (eqb (twice_at new) (length new), Err (Twice (twice_at new))) ∷ [] in
+      let later : List (Test RenumberAnswer) = (eqb (disordered_at new order) (length order), Err (Disordered (disordered_at new order))) ∷ last in
+      let rest : List (Test RenumberAnswer) = (eqb (unrising_at old) (length old), Err (Unrising (unrising_at old))) ∷ later in
+      let first = first-passed (Ok tt) (both (eqb (length new) (length old)) (eqb (length order) (length old)), Err Lengths) rest (other (Err Lengths) (λ z. omega arith)) e in
+      let second = first-passed (Ok tt) (eqb (unrising_at old) (length old), Err (Unrising (unrising_at old))) later (other (Err (Unrising (unrising_at old))) (λ z. omega arith)) first.1 in
+      let third = first-passed (Ok tt) (eqb (disordered_at new order) (length order), Err (Disordered (disordered_at new order))) last (other (Err (Disordered (disordered_at new order))) (λ z. omega arith)) second.1 in
+      let fourth = first-passed (Ok tt) (eqb (twice_at new) (length new), Err (Twice (twice_at new))) [] (other (Err (Twice (twice_at new))) (λ z. omega arith)) third.1 in
       let long = both_true _ _ first.0 in
       record {
         new_long = eqb-true _ _ long.0;

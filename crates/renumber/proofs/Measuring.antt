@@ -11,13 +11,13 @@ use lib.Dec.{eqb}
 use lib.ListN.{length, get_or, set, length-set}
 use lib.Seq.{get_or-set_same, get_or-set_other}
 use borrow.Author.Tests.{eq-eqb, eqb-true}
+use Rattle.std.specs.Prelude.{Ok}
 use Rattle.lists.specs.Numbers.{Elements}
 use Rattle.lists.specs.Passing.{failing_from, passing}
 use Rattle.lists.specs.Pick.{pick, both}
 use Rattle.lists.proofs.Failing.{failing_few}
 use Rattle.lists.proofs.Search.{first_only}
 use Rattle.lists.proofs.Tests.{both_true}
-use Rattle.contents.specs.declared.FileAnswer.TheVariants.{Done}
 use Rattle.contents.specs.Answers.{file_answer}
 use Rattle.contents.specs.Contents.{count, entry_size, contents_size}
 use Rattle.bodywise.specs.declared.Body.{Body}
@@ -71,7 +71,7 @@ module _ (old new l counts : List ℕ) (n : ℕ) where
 not-both : {b : Bool} → b ≡ true → b ≡ false → ⊥
 not-both is not = let z : ◌≡◌ {A = ℕ} 1 0 = ap (λ b. pick b 1 0) (sym is ∙ not) in omega arith
 
-module _ (old new l : List ℕ) (runs : file_answer (runs_tests l) ≡ Done) where
+module _ (old new l : List ℕ) (runs : file_answer (runs_tests l) ≡ Ok tt) where
   pub measuring_first : {b : Body} → b ≡ first_body l → {n : ℕ} → n ≡ count l → {block kept counts : List ℕ}
       → length block ≡ 1024 → length kept ≡ 768 → length counts ≡ 256 → Measuring old new l n (4 + n * 32) 0 b block kept counts
   unfolding contents_size entry_size failing_from passing

@@ -10,6 +10,7 @@ use native.Mathlib.Nat.{add-zero, zero-add}
 use native.Mathlib.Numerals.{add-one}
 use native.Mathlib.Omega.{arith}
 use lib.ListN.{length, get_or, length-map, length-append}
+use Rattle.std.specs.Prelude.{Ok}
 use Rattle.lists.specs.Numbers.{Elements}
 use Rattle.lists.specs.Passing.{failing_from}
 use Rattle.lists.specs.Parts.{cut}
@@ -18,7 +19,6 @@ use Rattle.lists.proofs.Failing.{failing_append, failing_shift, failing_ext, fai
 use Rattle.lists.proofs.Parts.{length_cut, get_d_cut}
 use Rattle.lists.proofs.Search.{first-before, first-at, first_only}
 use Rattle.lists.proofs.Tabs.{is-tab}
-use Rattle.contents.specs.declared.FileAnswer.TheVariants.{Done}
 use Rattle.contents.specs.Answers.{file_answer}
 use Rattle.contents.specs.Contents.{count, contents_size}
 use Rattle.candidates.specs.Candidates.{chosen}
@@ -71,7 +71,7 @@ module _ (old new l : List ℕ) where
   changed-few n = failing_few 0 n (λ p. is_kept old new (row_at l p))
 
 -- Of a block of a file that is right up to its run indices:
-module _ (old new l : List ℕ) (runs : file_answer (runs_tests l) ≡ Done) (bytes : Elements 8 l) (i : ℕ) (h : i < count l) where
+module _ (old new l : List ℕ) (runs : file_answer (runs_tests l) ≡ Ok tt) (bytes : Elements 8 l) (i : ℕ) (h : i < count l) where
   old_long : length (block_in l i) ≡ 1024
   old_long = (Old.runs_block l runs bytes i h).0
 

@@ -13,6 +13,7 @@ use borrow.Author.Tests.{eq-eqb, ne_eqb}
 use lib.Dec.{eqb}
 use lib.ListN.{length, get_or}
 use lib.Seq.{ext_get_or}
+use Rattle.std.specs.Prelude.{Ok}
 use Rattle.lists.specs.Members.{Stands, Rising}
 use Rattle.lists.specs.Numbers.{Elements}
 use Rattle.lists.specs.Passing.{failing_from}
@@ -21,7 +22,6 @@ use Rattle.lists.proofs.Failing.{failing_ext}
 use Rattle.lists.proofs.Search.{first-before}
 use Rattle.lists.proofs.Tabs.{length-tab, get_d_tab}
 use Rattle.places.specs.Sizes.{t64}
-use Rattle.contents.specs.declared.FileAnswer.TheVariants.{Done}
 use Rattle.contents.specs.Answers.{file_answer}
 use Rattle.contents.specs.Contents.{count}
 use Rattle.files.specs.Files.{row_at, row_count, rows_of, file_tests}
@@ -29,12 +29,10 @@ use Rattle.files.proofs.Rows.{rows-count}
 use Rattle.writer.specs.Writer.{file_of}
 use Rattle.writer.proofs.Laying.{file_short}
 use Rattle.writer.proofs.FileRows as Old
-use Rattle.renumber.specs.declared.RenumberAnswer.TheVariants.{File}
-use Rattle.renumber.specs.declared.Renumbered.TheVariants.{Length}
 use Rattle.renumber.specs.InnerPairs.{Paired}
 use Rattle.renumber.specs.Pairs.{place_in, renumbered, is_free, along, turned}
 use Rattle.renumber.specs.Reasons.{ListsRight}
-use Rattle.renumber.specs.Renumber.{new_rows, new_file, changed_rows, taken_at, renumber_answer, renumbered_of, renumber_leaves}
+use Rattle.renumber.specs.Renumber.{sizes, new_rows, new_file, changed_rows, taken_at, renumber_answer, renumbered_of, renumber_leaves}
 use Rattle.renumber.proofs.Becoming.{becomes_new, stays, order_different, order-place, along-stands}
 use Rattle.renumber.proofs.Calls.{nothing_stops, written}
 use Rattle.renumber.proofs.Exactly.{none-fails, free-tested, tested-free, lists-right}
@@ -185,8 +183,8 @@ eqb-turned a b =
       | no n ↦ ne_eqb a b n ∙ sym (ne_eqb b a (λ e. n (sym e)))
     ]
 
-module _ (l old new order output : List ℕ) (bytes : Elements 8 l) (news : Elements t64 new) (done : renumber_answer l old new order output ≡ File Done) where
-  accepted : file_answer (file_tests l) ≡ Done
+module _ (l old new order output : List ℕ) (bytes : Elements 8 l) (news : Elements t64 new) (done : renumber_answer l old new order output ≡ Ok tt) where
+  accepted : file_answer (file_tests l) ≡ Ok tt
   accepted = (all_taken l old new order output done).file
 
   so : Paired old new order
@@ -246,7 +244,7 @@ module _ (l old new order output : List ℕ) (bytes : Elements 8 l) (news : Elem
 
   module _ (back : List ℕ) (room : 4 + 8224 * count l ≤ length back) where
     -- The call is not refused where there is room for any file of as many blocks,
-    pub undo_answer : renumber_answer (new_file old new l) (along order new) (along order old) (turned order) back ≡ File Done
+    pub undo_answer : renumber_answer (new_file old new l) (along order new) (along order old) (turned order) back ≡ Ok tt
     undo_answer =
         nothing_stops (new_file old new l) (along order new) (along order old) (turned order) back (new-accepted old new l bytes news accepted)
         (lists-right (new_file old new l) (along order new) (along order old) (turned order) back (turned_right old new order so))
@@ -255,10 +253,10 @@ module _ (l old new order output : List ℕ) (bytes : Elements 8 l) (news : Elem
 
     -- it gives the length of the rewrite and the same count,
     pub undo_given : renumbered_of (new_file old new l) (along order new) (along order old) (turned order) back
-        ≡ Length (length (file_of (rows_of l))) (length (changed_rows old new l))
+        ≡ Ok (sizes (length (file_of (rows_of l))) (length (changed_rows old new l)))
     undo_given =
         sym (written (new_file old new l) (along order new) (along order old) (turned order) back undo_answer).0
-        ∙ ap₂ (λ f c. Length (length f) (length c)) undone_file undone_changed
+        ∙ ap₂ (λ f c. Ok (sizes (length f) (length c))) undone_file undone_changed
 
     -- and it leaves the rewrite of the old file, byte for byte.
     pub undo_leaves : renumber_leaves (new_file old new l) (along order new) (along order old) (turned order) back ≡ over 0 (file_of (rows_of l)) back

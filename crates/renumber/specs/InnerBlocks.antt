@@ -1,21 +1,29 @@
 -- What is found of one block, and of the whole file, before anything is written, and what is kept of the blocks until
 -- they are written. Private steps name these; no public contract does.
 -- Assumes nothing.
-use Rattle.std.specs.Prelude.{true, false, List, map, ◌≡◌, ℕ, ◌+◌, ◌*◌, ◌<◌, eqb, length, get_or, set}
+use Rattle.std.specs.Prelude.{true, false, List, map, ◌≡◌, ℕ, ◌+◌, ◌*◌, ◌<◌, eqb, length, get_or, set, Ok, Err}
 use Rattle.lists.specs.Ends.{lowest_of, highest_of}
 use Rattle.lists.specs.Members.{Rising}
 use Rattle.lists.specs.Passing.{failing_from}
 use Rattle.lists.specs.Pick.{both}
 use Rattle.lists.specs.Search.{first_bad}
+use Rattle.contents.specs.Answers.{FileAnswer}
 use Rattle.contents.specs.Contents.{count}
 use Rattle.candidates.specs.Candidates.{chosen, differences}
 use Rattle.candidates.specs.Widths.{width_of}
 use Rattle.files.specs.Files.{block_in, row_count, has_true_range, FileTaken}
 use Rattle.writer.specs.InnerKept.{Kept}
 use Rattle.renumber.specs.declared.Found.{Found}
+use Rattle.renumber.specs.declared.RenumberRefusal.{RenumberRefusal}
+use Rattle.renumber.specs.declared.RenumberRefusal.TheVariants.{File}
 use Rattle.renumber.specs.InnerPairs.{is_kept}
 use Rattle.renumber.specs.Pairs.{renumbered, is_free}
 use Rattle.renumber.specs.Renumber.{new_file, changed_rows, taken_at}
+
+-- A refusal of the file stands before any other.
+abbrev pub first_of : (file : FileAnswer) (otherwise : RenumberRefusal) → RenumberRefusal
+first_of (Ok _) otherwise = otherwise
+first_of (Err refusal) otherwise = File refusal
 
 -- This is a block whose numbers are renumbered,
 unfoldable pub new_block : (old new block : List ℕ) → List ℕ

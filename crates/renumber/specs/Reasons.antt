@@ -2,15 +2,14 @@
 -- arithmetic behind them, without a test or a search. It guards the tests in Renumber: that a call gets an answer
 -- exactly when it has the reason for it here is a theorem.
 -- Assumes nothing.
-use Rattle.std.specs.Prelude.{List, ◌⊎◌, ◌≢◌, ◌≡◌, ℕ, ◌-◌, ◌≤◌, ◌<◌, length, get_or}
+use Rattle.std.specs.Prelude.{List, ◌⊎◌, ◌≢◌, ◌≡◌, ℕ, ◌-◌, ◌≤◌, ◌<◌, length, get_or, Ok, Err}
 use Rattle.lists.specs.Members.{Stands}
-use Rattle.contents.specs.declared.FileAnswer.{FileAnswer}
-use Rattle.contents.specs.declared.FileAnswer.TheVariants.{Done, Room}
+use Rattle.contents.specs.declared.FileRefusal.TheVariants.{Room}
 use Rattle.files.specs.Files.{row_count, row_at}
 use Rattle.files.specs.Reasons.{Reason}
-use Rattle.renumber.specs.declared.RenumberAnswer.{RenumberAnswer}
-use Rattle.renumber.specs.declared.RenumberAnswer.TheVariants.{File, Lengths, Unrising, Disordered, Twice, Taken}
-use Rattle.renumber.specs.Renumber.{new_file}
+use Rattle.renumber.specs.declared.RenumberRefusal.TheVariants.{File, Lengths, Unrising, Disordered, Twice, Taken}
+use Rattle.renumber.specs.Renumber.{RenumberAnswer, from_file, new_file}
+use Rattle.contents.specs.Answers.{FileAnswer}
 
 -- The three lists are of one length.
 abbrev pub OneLength : (old new order : List ℕ) → Type 0
@@ -46,26 +45,26 @@ pub record ListsRight (old new order : List ℕ) : Type 0 where
 -- The call has this reason for its answer.
 pub data RenumberReason (l old new order output : List ℕ) : RenumberAnswer → Type 0 where
   -- The file has a reason of its own, which the reader would give.
-  of_file : (a : FileAnswer) → a ≢ Done → Reason l a → RenumberReason l old new order output (File a)
+  of_file : (a : FileAnswer) → a ≢ Ok tt → Reason l a → RenumberReason l old new order output (from_file a)
   -- 18: the lists are not of one length.
-  other_lengths : Reason l Done → (OneLength old new order → ⊥) → RenumberReason l old new order output Lengths
+  other_lengths : Reason l (Ok tt) → (OneLength old new order → ⊥) → RenumberReason l old new order output (Err Lengths)
   -- 19: p is the lowest place from 1 on whose old number is not above the one before it.
-  unrising : (p : ℕ) → Reason l Done → OneLength old new order → p < length old → 0 < p → get_or old p 0 ≤ get_or old (p - 1) 0
-      → ((i : ℕ) → i < p → RisesAt old i) → RenumberReason l old new order output (Unrising p)
+  unrising : (p : ℕ) → Reason l (Ok tt) → OneLength old new order → p < length old → 0 < p → get_or old p 0 ≤ get_or old (p - 1) 0
+      → ((i : ℕ) → i < p → RisesAt old i) → RenumberReason l old new order output (Err (Unrising p))
   -- 20: p is the lowest place of the order that is not right.
-  disordered : (p : ℕ) → Reason l Done → OneLength old new order → ((i : ℕ) → i < length old → RisesAt old i)
+  disordered : (p : ℕ) → Reason l (Ok tt) → OneLength old new order → ((i : ℕ) → i < length old → RisesAt old i)
       → p < length order → (OrderedAt new order p → ⊥) → ((i : ℕ) → i < p → OrderedAt new order i)
-      → RenumberReason l old new order output (Disordered p)
+      → RenumberReason l old new order output (Err (Disordered p))
   -- 21: p is the lowest place whose new number stands at another place q too.
-  twice : (p q : ℕ) → Reason l Done → OneLength old new order → ((i : ℕ) → i < length old → RisesAt old i)
+  twice : (p q : ℕ) → Reason l (Ok tt) → OneLength old new order → ((i : ℕ) → i < length old → RisesAt old i)
       → ((i : ℕ) → i < length order → OrderedAt new order i) → p < length new → q < length new → q ≢ p → get_or new q 0 ≡ get_or new p 0
-      → ((i : ℕ) → i < p → Alone new i) → RenumberReason l old new order output (Twice p)
+      → ((i : ℕ) → i < p → Alone new i) → RenumberReason l old new order output (Err (Twice p))
   -- 22: p is the lowest row whose number is not listed and stands among the new numbers.
-  taken : (p : ℕ) → Reason l Done → ListsRight old new order → p < row_count l → (Stands (row_at l p) old → ⊥) → Stands (row_at l p) new
-      → ((i : ℕ) → i < p → Free old new (row_at l i)) → RenumberReason l old new order output (Taken p)
+  taken : (p : ℕ) → Reason l (Ok tt) → ListsRight old new order → p < row_count l → (Stands (row_at l p) old → ⊥) → Stands (row_at l p) new
+      → ((i : ℕ) → i < p → Free old new (row_at l i)) → RenumberReason l old new order output (Err (Taken p))
   -- 14: the output is shorter than the new file.
-  short_output : Reason l Done → ListsRight old new order → ((i : ℕ) → i < row_count l → Free old new (row_at l i))
-      → length output < length (new_file old new l) → RenumberReason l old new order output (File Room)
+  short_output : Reason l (Ok tt) → ListsRight old new order → ((i : ℕ) → i < row_count l → Free old new (row_at l i))
+      → length output < length (new_file old new l) → RenumberReason l old new order output (Err (File Room))
   -- 0: nothing of that.
-  room_there : Reason l Done → ListsRight old new order → ((i : ℕ) → i < row_count l → Free old new (row_at l i))
-      → length (new_file old new l) ≤ length output → RenumberReason l old new order output (File Done)
+  room_there : Reason l (Ok tt) → ListsRight old new order → ((i : ℕ) → i < row_count l → Free old new (row_at l i))
+      → length (new_file old new l) ≤ length output → RenumberReason l old new order output (Ok tt)

@@ -17,12 +17,10 @@
 
 mod pairs;
 
-ghost use Rattle.std.specs.Prelude.{◌≡◌, ◌++◌, ◌+◌, ◌*◌, ◌≤◌, ◌<◌, length, get_or, set};
+ghost use Rattle.std.specs.Prelude.{◌≡◌, ◌++◌, ◌+◌, ◌*◌, ◌≤◌, ◌<◌, length, get_or, set, Ok};
 ghost use Rattle.lists.specs.Members.{Rising};
-ghost use Rattle.lists.specs.Pick.{pick};
 ghost use Rattle.lists.specs.Tab.{over};
-ghost use Rattle.contents.specs.declared.FileAnswer.TheVariants.{Done};
-ghost use Rattle.contents.specs.Answers.{file_answer, is_done};
+ghost use Rattle.contents.specs.Answers.{file_answer};
 ghost use Rattle.contents.specs.Bytes.{entry_bytes};
 ghost use Rattle.contents.specs.Contents.{count as count_in, contents_size, body_start};
 ghost use Rattle.bodies.specs.Ranges.{true_range};
@@ -31,21 +29,20 @@ ghost use Rattle.candidates.specs.Candidates.{chosen, body_for};
 ghost use Rattle.files.specs.Files.{block_in, has_true_range, file_tests, runs_tests, FileTaken};
 ghost use Rattle.writer.specs.InnerKept.{KeptAt, Rooms};
 ghost use Rattle.writer.specs.Writer.{entries_for, bodies_for};
-ghost use Rattle.renumber.specs.declared.RenumberAnswer.TheVariants.{File};
-ghost use Rattle.renumber.specs.declared.Renumbered.TheVariants.{Refused};
-ghost use Rattle.renumber.specs.InnerBlocks.{new_block, taken_in, changed_in, kept_with, Ready, BlockFound, FileFound};
+ghost use Rattle.renumber.specs.declared.RenumberRefusal.TheVariants.{File};
+ghost use Rattle.renumber.specs.InnerBlocks.{first_of, new_block, taken_in, changed_in, kept_with, Ready, BlockFound, FileFound};
 ghost use Rattle.renumber.specs.InnerPairs.{Paired};
-ghost use Rattle.renumber.specs.Renumber.{number_of, place_of, new_rows, new_file, list_answer, renumbered_of, renumber_leaves, answer_of, length_of, changed_of};
+ghost use Rattle.renumber.specs.Renumber.{refusal_number, refusal_place, new_rows, new_file, list_answer, renumbered_of, renumber_leaves};
 
 use candidates::{entry_with, lay_by, measure};
-use contents::{FileAnswer, Range, count, edition, put_entry, put_head, range_or};
+use contents::{FileRefusal, Range, count, edition, put_entry, put_head, range_or};
 use files::{block_from, check_runs};
 
-// What a renumbering answers: what the file's own calls answer, or what is wrong with the lists.
-#[derive(Clone, Copy)]
-pub enum RenumberAnswer {
-    // that it is done, a refusal of the file, or that the output is too short
-    File(FileAnswer),
+// Why a renumbering is refused: as the file's own calls are, or for what is wrong with the lists.
+#[derive(Clone, Copy, Debug, PartialEq, Eq)]
+pub enum RenumberRefusal {
+    // a refusal of the file, or that the output is too short
+    File(FileRefusal),
     // the three lists are not of one length
     Lengths,
     // an old number is not above the one before it; the lowest such place
@@ -58,73 +55,49 @@ pub enum RenumberAnswer {
     Taken(usize),
 }
 
-impl RenumberAnswer {
-    // The number that stands for the answer: 0 where the call is done.
+impl RenumberRefusal {
+    // The number that stands for the refusal.
     pub fn number(self) -> usize
-        ensures { result ≡ number_of self }
+        ensures { result ≡ refusal_number self }
     {
         match self {
-            RenumberAnswer::File(a) => a.number(),
-            RenumberAnswer::Lengths => 18,
-            RenumberAnswer::Unrising(_) => 19,
-            RenumberAnswer::Disordered(_) => 20,
-            RenumberAnswer::Twice(_) => 21,
-            RenumberAnswer::Taken(_) => 22,
+            RenumberRefusal::File(refusal) => refusal.number(),
+            RenumberRefusal::Lengths => 18,
+            RenumberRefusal::Unrising(_) => 19,
+            RenumberRefusal::Disordered(_) => 20,
+            RenumberRefusal::Twice(_) => 21,
+            RenumberRefusal::Taken(_) => 22,
         }
     }
 
     // The place that is given back with the number.
     pub fn place(self) -> usize
-        ensures { result ≡ place_of self }
+        ensures { result ≡ refusal_place self }
     {
         match self {
-            RenumberAnswer::File(a) => a.place(),
-            RenumberAnswer::Lengths => 0,
-            RenumberAnswer::Unrising(p) => p,
-            RenumberAnswer::Disordered(p) => p,
-            RenumberAnswer::Twice(p) => p,
-            RenumberAnswer::Taken(p) => p,
+            RenumberRefusal::File(refusal) => refusal.place(),
+            RenumberRefusal::Lengths => 0,
+            RenumberRefusal::Unrising(p) => p,
+            RenumberRefusal::Disordered(p) => p,
+            RenumberRefusal::Twice(p) => p,
+            RenumberRefusal::Taken(p) => p,
         }
     }
 }
 
-// The length of the file that was written and how many rows changed, or the refusal.
+impl From<FileRefusal> for RenumberRefusal {
+    ghost from_gives = { λ refusal own. own ≡ File refusal };
+
+    fn from(refusal: FileRefusal) -> RenumberRefusal {
+        RenumberRefusal::File(refusal)
+    }
+}
+
+// The length of the file that was written, and how many rows changed.
 #[derive(Clone, Copy)]
-pub enum Renumbered {
-    Length(usize, usize),
-    Refused(RenumberAnswer),
-}
-
-impl Renumbered {
-    // The answer.
-    pub fn answer(self) -> RenumberAnswer
-        ensures { result ≡ answer_of self }
-    {
-        match self {
-            Renumbered::Length(_, _) => RenumberAnswer::File(FileAnswer::Done),
-            Renumbered::Refused(a) => a,
-        }
-    }
-
-    // The length; 0 after a refusal.
-    pub fn length(self) -> usize
-        ensures { result ≡ length_of self }
-    {
-        match self {
-            Renumbered::Length(n, _) => n,
-            Renumbered::Refused(_) => 0,
-        }
-    }
-
-    // How many rows changed; 0 after a refusal.
-    pub fn changed(self) -> usize
-        ensures { result ≡ changed_of self }
-    {
-        match self {
-            Renumbered::Length(_, k) => k,
-            Renumbered::Refused(_) => 0,
-        }
-    }
+pub struct Renumbered {
+    pub length: usize,
+    pub changed: usize,
 }
 
 // What is found of a block, or of the blocks of a file: whether it passes, which is that no range is false and no number
@@ -146,69 +119,65 @@ pub fn renumber(
     new: &[u64],
     order: &[u64],
     output: &mut [u8],
-) -> Renumbered
+) -> Result<Renumbered, RenumberRefusal>
     ensures value { result
         ≡ renumbered_of file.now old.now new.now order.now output.old }
     ensures output_after { output.new
         ≡ renumber_leaves file.now old.now new.now order.now output.old }
 {
-    let answer = check_runs(file);
-    if answer.number() != 0 {
-        return Renumbered::Refused(RenumberAnswer::File(answer));
-    }
-    let lists = check_lists(old, new, order);
-    if lists.number() != 0 {
-        return refuse(file, lists);
+    check_runs(file)?;
+    if let Err(refusal) = check_lists(old, new, order) {
+        return Err(refuse(file, refusal));
     }
     let mut kept = [0u64; 768];
     let mut counts = [0u64; 256];
     let found = measure_blocks(file, old, new, order, &mut kept, &mut counts);
     if !found.passes {
-        return refuse(file, RenumberAnswer::Taken(found.taken));
+        return Err(refuse(file, RenumberRefusal::Taken(found.taken)));
     }
     if output.len() < found.size {
-        return Renumbered::Refused(RenumberAnswer::File(FileAnswer::Room));
+        return Err(RenumberRefusal::File(FileRefusal::Room));
     }
     lay_file(file, old, new, &kept, &counts, output);
-    Renumbered::Length(found.size, found.changed)
+    Ok(Renumbered {
+        length: found.size,
+        changed: found.changed,
+    })
 }
 
-// Refuses a file that is right up to its run indices: a false range stands before anything else that is wrong.
-fn refuse(file: &[u8], otherwise: RenumberAnswer) -> Renumbered
-    ensures { result
-        ≡ Refused
-        (pick (is_done (file_answer (file_tests file.now))) otherwise (File (file_answer (file_tests file.now)))) }
+// The refusal of a file that is right up to its run indices: a false range stands before anything else that is wrong.
+fn refuse(file: &[u8], otherwise: RenumberRefusal) -> RenumberRefusal
+    ensures { result ≡ first_of (file_answer (file_tests file.now)) otherwise }
 {
-    let checked = files::check(file);
-    if checked.number() != 0 {
-        return Renumbered::Refused(RenumberAnswer::File(checked));
+    match files::check(file) {
+        Ok(()) => otherwise,
+        Err(refusal) => RenumberRefusal::File(refusal),
     }
-    Renumbered::Refused(otherwise)
 }
 
 // The answer to the lists alone.
-fn check_lists(old: &[u64], new: &[u64], order: &[u64]) -> RenumberAnswer
+fn check_lists(old: &[u64], new: &[u64], order: &[u64]) -> Result<(), RenumberRefusal>
     ensures { result ≡ list_answer old.now new.now order.now }
 {
     if new.len() != old.len() {
-        return RenumberAnswer::Lengths;
+        return Err(RenumberRefusal::Lengths);
     }
     if order.len() != old.len() {
-        return RenumberAnswer::Lengths;
+        return Err(RenumberRefusal::Lengths);
     }
     let p = pairs::first_unrising(old);
     if p < old.len() {
-        return RenumberAnswer::Unrising(p);
+        return Err(RenumberRefusal::Unrising(p));
     }
     let q = pairs::first_disordered(new, order);
     if q < order.len() {
-        return RenumberAnswer::Disordered(q);
+        return Err(RenumberRefusal::Disordered(q));
     }
     let t = pairs::first_twice(new, order);
     if t < new.len() {
-        return RenumberAnswer::Twice(t);
+        return Err(RenumberRefusal::Twice(t));
     }
-    RenumberAnswer::File(FileAnswer::Done)
+    Ok(())
 }
 
 // Goes through the file, which is right up to its run indices, for a false range, the lowest row that is taken, the new
@@ -222,7 +191,7 @@ fn measure_blocks(
     kept: &mut [u64],
     counts: &mut [u64],
 ) -> Found
-    requires file_value { file_answer (runs_tests file.now) ≡ Done }
+    requires file_value { file_answer (runs_tests file.now) ≡ Ok tt }
     requires paired { Paired old.now new.now order.now }
     requires kept_len { (length kept.old ≡ 768) × (length counts.old ≡ 256) }
     ensures { FileFound old.now new.now file.now kept.new counts.new result }
@@ -268,7 +237,7 @@ fn measure_one(
     kept: &mut [u64],
     counts: &mut [u64],
 ) -> Found
-    requires file_value { file_answer (runs_tests file.now) ≡ Done }
+    requires file_value { file_answer (runs_tests file.now) ≡ Ok tt }
     requires i_bound { i < count_in file.now }
     requires from_value { from ≡ body_start file.now i }
     requires paired { Paired old.now new.now order.now }
@@ -281,7 +250,7 @@ fn measure_one(
         ≡ set counts.old i
         (length (changed_in old.now new.now (block_in file.now i))) }
 {
-    block_from(file, i, from, block);
+    let _ = block_from(file, i, from, block);
     let m = measure(block);
     let range = m.range;
     let ranged = is_told(file, i, range);
@@ -301,7 +270,7 @@ fn measure_one(
 
 // Whether entry i says this range. In edition 1 it says none, and the answer is yes.
 fn is_told(file: &[u8], i: usize, range: Range) -> bool
-    requires file_value { file_answer (runs_tests file.now) ≡ Done }
+    requires file_value { file_answer (runs_tests file.now) ≡ Ok tt }
     requires i_bound { i < count_in file.now }
     requires range_value { range ≡ true_range (block_in file.now i) }
     ensures { result ≡ has_true_range file.now i }
@@ -347,14 +316,12 @@ fn first_taken(block: &[u64], range: Range, old: &[u64], new: &[u64], order: &[u
     if !pairs::meets_along(order, new, range.smallest, range.largest) {
         return block.len();
     }
-    let mut k = 0;
-    while k < block.len() {
-        if !pairs::is_free(old, new, order, block[k]) {
+    for (k, x) in block.iter().enumerate() {
+        if !pairs::is_free(old, new, order, *x) {
             return k;
         }
-        k += 1;
     }
-    k
+    block.len()
 }
 
 // Renumbers a block, and gives how many of its numbers changed. In a block that has no old number between its smallest
@@ -380,15 +347,13 @@ fn replace_all(block: &mut [u64], old: &[u64], new: &[u64]) -> usize
     ensures block_after { block.new ≡ new_block old.now new.now block.old }
 {
     let mut changed = 0;
-    let mut k = 0;
-    while k < block.len() {
+    for k in 0..block.len() {
         let x = block[k];
         let y = pairs::renumber_one(old, new, x);
         if y != x {
             changed += 1;
         }
         block[k] = y;
-        k += 1;
     }
     changed
 }
@@ -465,7 +430,7 @@ fn new_block(
     requires i_value { get_or counts.now i 0 ≡ length (changed_in old.now new.now (block_in file.now i)) }
     ensures { block.new ≡ new_block old.now new.now (block_in file.now i) }
 {
-    block_from(file, i, from, block);
+    let _ = block_from(file, i, from, block);
     if counts[i] == 0 {
         return;
     }
@@ -501,7 +466,7 @@ fn lay_one(
         largest: kept[k + 1],
     };
     let steps = kept[k + 2] as usize;
-    lay_by(range, steps, block, plain, frame, rest, &mut output[at..]);
+    let _ = lay_by(range, steps, block, plain, frame, rest, &mut output[at..]);
     let e = entry_with(range, steps);
     put_entry(e, range, 4 + i * 32, output);
     e.length as usize

@@ -127,12 +127,10 @@ pub fn meets_along(order: &[u64], list: &[u64], low: u64, high: u64) -> bool
 pub fn first_unrising(list: &[u64]) -> usize
     ensures { result ≡ unrising_at list.now }
 {
-    let mut i = 1;
-    while i < list.len() {
+    for i in 1..list.len() {
         if list[i] <= list[i - 1] {
             return i;
         }
-        i += 1;
     }
     list.len()
 }
@@ -142,14 +140,12 @@ pub fn first_unrising(list: &[u64]) -> usize
 pub fn first_disordered(new: &[u64], order: &[u64]) -> usize
     ensures { result ≡ disordered_at new.now order.now }
 {
-    let mut i = 0;
-    while i < order.len() {
+    for i in 0..order.len() {
         if !is_ordered(new, order, i) {
             return i;
         }
-        i += 1;
     }
-    i
+    order.len()
 }
 
 // Whether place i of the order says a pair that is there, and from place 1 on one that comes behind the pair before it.
@@ -187,14 +183,12 @@ pub fn first_twice(new: &[u64], order: &[u64]) -> usize
     ensures { result ≡ twice_at new.now }
 {
     let mut low = new.len();
-    let mut i = 1;
-    while i < order.len() {
+    for i in 1..order.len() {
         let p = order[i - 1] as usize;
         let q = order[i] as usize;
         if new[p] == new[q] {
             low = lower(low, p);
         }
-        i += 1;
     }
     low
 }

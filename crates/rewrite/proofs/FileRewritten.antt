@@ -10,12 +10,12 @@ use Prim.Native.Nat.{ℕ, ◌≤◌, ◌<◌}
 use native.Mathlib.Decide.{dec_le, ℕ_discrete}
 use native.Mathlib.Omega.{arith}
 use lib.ListN.{length, take}
+use Rattle.std.specs.Prelude.{Ok, Err}
 use Rattle.lists.specs.Numbers.{Elements}
 use Rattle.lists.proofs.Tabs.{is-tab}
 use Rattle.places.specs.Sizes.{t64}
-use Rattle.contents.specs.declared.FileAnswer.{FileAnswer}
-use Rattle.contents.specs.declared.FileAnswer.TheVariants.{Done, Room}
-use Rattle.contents.specs.Answers.{file_answer, number_of}
+use Rattle.contents.specs.declared.FileRefusal.TheVariants.{Room}
+use Rattle.contents.specs.Answers.{FileAnswer, file_answer, number_of}
 use Rattle.contents.specs.Contents.{edition, count, entry_of}
 use Rattle.contents.proofs.Answers.{number-done}
 use Rattle.candidates.specs.Candidates.{chosen}
@@ -47,10 +47,10 @@ module _ (l output : List ℕ) where
   reason =
       elim (ℕ_discrete (number_of (file_answer (file_tests l))) 0) [
         | no bad ↦ (file_answer (file_tests l), of_file (file_answer (file_tests l)) (λ e. bad (ap number_of e)) ((file_exactly l (file_answer (file_tests l))).0 refl))
-        | yes zero ↦ let r : Reason l Done = (file_exactly l Done).0 (number-done (file_answer (file_tests l)) zero) in
+        | yes zero ↦ let r : Reason l (Ok tt) = (file_exactly l (Ok tt)).0 (number-done (file_answer (file_tests l)) zero) in
             elim (dec_le (length (new_file l)) (length output)) [
-              | yes room ↦ (Done, room_there r room)
-              | no short ↦ (Room, short_output r (omega arith))
+              | yes room ↦ (Ok tt, room_there r room)
+              | no short ↦ (Err Room, short_output r (omega arith))
             ]
       ]
 
@@ -64,11 +64,11 @@ module _ (l output : List ℕ) where
   rewrite-outcome = outcome (file_answer (rewrite_tests l output)) (new_file l) output
 
   -- A file that is its own new file is left at the front as it is.
-  pub rewrite_keeps : file_answer (rewrite_tests l output) ≡ Done → new_file l ≡ l → take (length l) (rewrite_leaves l output) ≡ l
+  pub rewrite_keeps : file_answer (rewrite_tests l output) ≡ Ok tt → new_file l ≡ l → take (length l) (rewrite_leaves l output) ≡ l
   rewrite_keeps done same = subst (λ f. take (length f) (rewrite_leaves l output) ≡ f) same (rewrite-outcome.front done)
 
   -- Of an accepted file the outcome is that of a write of its rows.
-  pub rewrite-writes : file_answer (file_tests l) ≡ Done
+  pub rewrite-writes : file_answer (file_tests l) ≡ Ok tt
       → (rewritten_of l output ≡ written_of (rows_of l) output) × (rewrite_leaves l output ≡ file_leaves (rows_of l) output)
   unfolding rewritten_of rewrite_leaves written_of file_leaves
   rewrite-writes done =
@@ -91,12 +91,12 @@ pub rewrite-same : (values : List ℕ) → Blocks values → Elements t64 values
 rewrite-same values b fits = ap file_of (rows-read values b.n b.whole b.few fits)
 
 -- Of an accepted file of bytes:
-module _ (l : List ℕ) (bytes : Elements 8 l) (done : file_answer (file_tests l) ≡ Done) where
+module _ (l : List ℕ) (bytes : Elements 8 l) (done : file_answer (file_tests l) ≡ Ok tt) where
   fits : Elements t64 (rows_of l)
   fits = Rows.rows_fit l bytes done
 
   -- the new file is accepted, and every row is the same,
-  pub new-accepted : file_answer (file_tests (new_file l)) ≡ Done
+  pub new-accepted : file_answer (file_tests (new_file l)) ≡ Ok tt
   new-accepted = file-accepted (rows_of l) (count l) (rows_long l done) (few l done) fits
 
   pub new-rows : rows_of (new_file l) ≡ rows_of l

@@ -4,15 +4,14 @@
 #![tactic(auto)]
 
 ghost use Rattle.std.specs.Prelude.{◌≡◌};
-ghost use Rattle.rewrite.specs.InnerPairless.{own_answer, as_written};
+ghost use Rattle.rewrite.specs.InnerPairless.{own_refusal, as_written};
 ghost use Rattle.rewrite.specs.Rewrite.{rewritten_of, rewrite_leaves};
 
-use contents::FileAnswer;
-use renumber::{RenumberAnswer, Renumbered, renumber};
-use writer::Written;
+use contents::FileRefusal;
+use renumber::{RenumberRefusal, Renumbered, renumber};
 
-// Writes the file's rows as a new file at the front of the output.
-pub fn rewrite(file: &[u8], output: &mut [u8]) -> Written
+// Writes the file's rows as a new file at the front of the output, and gives its length.
+pub fn rewrite(file: &[u8], output: &mut [u8]) -> Result<usize, FileRefusal>
     ensures value { result ≡ rewritten_of file.now output.old }
     ensures output_after { output.new ≡ rewrite_leaves file.now output.old }
 {
@@ -22,25 +21,25 @@ pub fn rewrite(file: &[u8], output: &mut [u8]) -> Written
 }
 
 // What a renumbering without pairs gave, as a rewrite gives it.
-fn as_written(renumbered: Renumbered) -> Written
+fn as_written(renumbered: Result<Renumbered, RenumberRefusal>) -> Result<usize, FileRefusal>
     ensures { result ≡ as_written renumbered }
 {
     match renumbered {
-        Renumbered::Length(size, _) => Written::Length(size),
-        Renumbered::Refused(answer) => Written::Refused(own_answer(answer)),
+        Ok(given) => Ok(given.length),
+        Err(refusal) => Err(own_refusal(refusal)),
     }
 }
 
-// The file's own answer. No other one is given where there are no pairs, and `Done` stands for those.
-fn own_answer(answer: RenumberAnswer) -> FileAnswer
-    ensures { result ≡ own_answer answer }
+// The file's own refusal. No other one is given where there are no pairs, and `Room` stands for those.
+fn own_refusal(refusal: RenumberRefusal) -> FileRefusal
+    ensures { result ≡ own_refusal refusal }
 {
-    match answer {
-        RenumberAnswer::File(own) => own,
-        RenumberAnswer::Lengths => FileAnswer::Done,
-        RenumberAnswer::Unrising(_) => FileAnswer::Done,
-        RenumberAnswer::Disordered(_) => FileAnswer::Done,
-        RenumberAnswer::Twice(_) => FileAnswer::Done,
-        RenumberAnswer::Taken(_) => FileAnswer::Done,
+    match refusal {
+        RenumberRefusal::File(own) => own,
+        RenumberRefusal::Lengths => FileRefusal::Room,
+        RenumberRefusal::Unrising(_) => FileRefusal::Room,
+        RenumberRefusal::Disordered(_) => FileRefusal::Room,
+        RenumberRefusal::Twice(_) => FileRefusal::Room,
+        RenumberRefusal::Taken(_) => FileRefusal::Room,
     }
 }

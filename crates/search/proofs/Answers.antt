@@ -1,5 +1,6 @@
 -- What the search answers by its tests, and what it leaves.
 -- Assumes nothing.
+use Rattle.std.specs.Prelude.{Ok, Err}
 use Rattle.std.proofs.Common.{◌≡◌, ℕ, zero, suc, ◌+◌, ◌*◌, ◌<◌, ◌≤◌, Bool, true, false, eqb, leb, List, [], ◌∷◌, length, sym, refl, ap, ◌∙◌, ap₂, zero-add, add-one, arith, eq-eqb, ne_eqb, eqb-true, le-leb}
 use Rattle.lists.specs.Pick.{pick}
 use Rattle.lists.specs.Tab.{over}
@@ -7,19 +8,18 @@ use Rattle.lists.specs.Passing.{passing}
 use Rattle.lists.proofs.Overs.{over_nothing}
 use Rattle.lists.proofs.Search.{first_only, first_le}
 use Rattle.lists.proofs.Passing.{passing-length}
-use Rattle.contents.specs.declared.FileAnswer.{FileAnswer}
-use Rattle.contents.specs.declared.FileAnswer.TheVariants.{Done, Runs, Range, Room}
-use Rattle.contents.specs.Answers.{file_answer, number_of, is_done, left}
+use Rattle.contents.specs.declared.FileRefusal.{FileRefusal}
+use Rattle.contents.specs.declared.FileRefusal.TheVariants.{Runs, Range, Room}
+use Rattle.contents.specs.Answers.{FileAnswer, file_answer, left, giving}
 use Rattle.contents.specs.Contents.{edition, count, range_of, contents_tests}
 use Rattle.contents.proofs.Accepted.{done_first}
-use Rattle.contents.proofs.Answers.{passed, stopped, none_left, in_front-done, in_front-refused, left-refused}
+use Rattle.contents.proofs.Answers.{passed, stopped, none_left, in_front-done, in_front-refused, left-err}
 use Rattle.bodies.specs.Ranges.{is_range}
 use Rattle.files.specs.Files.{block_in, has_true_range}
 use Rattle.search.specs.declared.Found.{Found}
-use Rattle.search.specs.declared.Found.TheVariants.{Rows, Refused}
 use Rattle.search.specs.InnerBlocks.{asked, bad_in}
 use Rattle.search.specs.Steps.{in_block}
-use Rattle.search.specs.Search.{opens, opened, found, bad_runs_in, bad_range_in, opened_tests, search_tests, found_of, search_leaves}
+use Rattle.search.specs.Search.{counts, opens, opened, found, bad_runs_in, bad_range_in, opened_tests, search_tests, found_of, search_leaves}
 use Rattle.search.proofs.Blocks.{in_long}
 use Rattle.search.proofs.Listing.{more_pass, same_pass, pass_mono}
 use Rattle.search.proofs.Walks.{found_to, found-length, found_shut, found_all}
@@ -30,16 +30,12 @@ nothing [] e = refl
 nothing (v ∷ x) e = absurd (omega arith)
 
 -- What a call gives and leaves by its answer: the refusal, and what was there before,
-pub given-refused : (x : Found) (new old : List ℕ) {a b : FileAnswer} → a ≡ b → (number_of b ≡ 0 → ⊥)
-    → (pick (is_done a) x (Refused a) ≡ Refused b) × (left a new old ≡ old)
-given-refused x new old {a} {b} e n = (
-  ap (λ a. pick (is_done a) x (Refused a)) e ∙ ap (λ t. pick t x (Refused b)) (ne_eqb (number_of b) 0 n),
-  ap (λ a. left a new old) e ∙ left-refused b new old n,
-)
+pub given-refused : (x : Found) (new old : List ℕ) {a : FileAnswer} {r : FileRefusal} → a ≡ Err r → (giving a x ≡ Err r) × (left a new old ≡ old)
+given-refused x new old {r = r} e = (ap (λ a. giving a x) e, ap (λ a. left a new old) e ∙ left-err r new old)
 
 -- or what was found.
-pub given-done : (x : Found) (new old : List ℕ) {a : FileAnswer} → a ≡ Done → (pick (is_done a) x (Refused a) ≡ x) × (left a new old ≡ new)
-given-done x new old e = (ap (λ a. pick (is_done a) x (Refused a)) e, ap (λ a. left a new old) e)
+pub given-done : (x : Found) (new old : List ℕ) {a : FileAnswer} → a ≡ Ok tt → (giving a x ≡ Ok x) × (left a new old ≡ new)
+given-done x new old e = (ap (λ a. giving a x) e, ap (λ a. left a new old) e)
 
 module _ (l : List ℕ) (low high : ℕ) where
   -- The lowest bad block of each sort is the one that a walk finds.
@@ -55,27 +51,27 @@ module _ (l : List ℕ) (low high : ℕ) where
   bad_le ranges = first_le (count l) (λ i. pick (opens l low high i) (asked l ranges i) true)
 
   -- The tests of the opened blocks, by what the walks find.
-  pub opened_runs : (bad : ℕ) → bad ≡ bad_in l low high false → (bad ≡ count l → ⊥) → file_answer (opened_tests l low high) ≡ Runs bad
+  pub opened_runs : (bad : ℕ) → bad ≡ bad_in l low high false → (bad ≡ count l → ⊥) → file_answer (opened_tests l low high) ≡ Err (Runs bad)
   opened_runs bad e other =
-      stopped _ _ (ne_eqb (bad_runs_in l low high) (count l) (λ f. other (e ∙ sym runs_are ∙ f))) ∙ ap Runs (runs_are ∙ sym e)
+      stopped _ _ (ne_eqb (bad_runs_in l low high) (count l) (λ f. other (e ∙ sym runs_are ∙ f))) ∙ ap (λ p. Err (Runs p)) (runs_are ∙ sym e)
 
   module _ (good : bad_in l low high false ≡ count l) where
-    ranges_left : file_answer (opened_tests l low high) ≡ file_answer ((eqb (bad_range_in l low high) (count l), Range (bad_range_in l low high)) ∷ [])
+    ranges_left : file_answer (opened_tests l low high) ≡ file_answer ((eqb (bad_range_in l low high) (count l), Err (Range (bad_range_in l low high))) ∷ [])
     ranges_left = passed _ _ (eq-eqb (bad_runs_in l low high) (count l) (runs_are ∙ good))
 
-    pub opened_range : (bad : ℕ) → bad ≡ bad_in l low high true → (bad ≡ count l → ⊥) → file_answer (opened_tests l low high) ≡ Range bad
+    pub opened_range : (bad : ℕ) → bad ≡ bad_in l low high true → (bad ≡ count l → ⊥) → file_answer (opened_tests l low high) ≡ Err (Range bad)
     opened_range bad e other =
-        ranges_left ∙ stopped _ _ (ne_eqb (bad_range_in l low high) (count l) (λ f. other (e ∙ sym ranges_are ∙ f))) ∙ ap Range (ranges_are ∙ sym e)
+        ranges_left ∙ stopped _ _ (ne_eqb (bad_range_in l low high) (count l) (λ f. other (e ∙ sym ranges_are ∙ f))) ∙ ap (λ p. Err (Range p)) (ranges_are ∙ sym e)
 
-    pub opened-done : bad_in l low high true ≡ count l → file_answer (opened_tests l low high) ≡ Done
+    pub opened-done : bad_in l low high true ≡ count l → file_answer (opened_tests l low high) ≡ Ok tt
     opened-done same = ranges_left ∙ passed _ _ (eq-eqb (bad_range_in l low high) (count l) (ranges_are ∙ same)) ∙ none_left
 
   -- Where they are passed, the opened blocks have their run indices in range,
-  pub opened-good : file_answer (opened_tests l low high) ≡ Done → bad_in l low high false ≡ count l
+  pub opened-good : file_answer (opened_tests l low high) ≡ Ok tt → bad_in l low high false ≡ count l
   opened-good done = sym runs_are ∙ eqb-true (bad_runs_in l low high) (count l) (done_first _ _ refl done).0
 
   -- and the ranges that their entries say.
-  pub opened-true : file_answer (opened_tests l low high) ≡ Done → bad_in l low high true ≡ count l
+  pub opened-true : file_answer (opened_tests l low high) ≡ Ok tt → bad_in l low high true ≡ count l
   opened-true done = sym ranges_are ∙ eqb-true (bad_range_in l low high) (count l) (done_first _ _ refl (done_first _ _ refl done).1).0
 
   -- Where every block is not opened or as asked, there is no bad one.
@@ -151,44 +147,44 @@ module _ (l : List ℕ) (low high : ℕ) where
 
   module _ (rows : List ℕ) where
     -- A refused search gives its refusal and leaves the room as it was.
-    pub search-refused : (a : FileAnswer) → file_answer (search_tests l low high rows) ≡ a → (number_of a ≡ 0 → ⊥)
-        → (found_of l low high rows ≡ Refused a) × (search_leaves l low high rows ≡ rows)
+    pub search-refused : (r : FileRefusal) → file_answer (search_tests l low high rows) ≡ Err r
+        → (found_of l low high rows ≡ Err r) × (search_leaves l low high rows ≡ rows)
     unfolding found_of search_leaves
-    search-refused a e n = given-refused (Rows (length (found l low high)) (length (opened l low high))) (over 0 (found l low high) rows) rows e n
+    search-refused r e = given-refused (counts (length (found l low high)) (length (opened l low high))) (over 0 (found l low high) rows) rows e
 
     -- One that is done gives how many rows and blocks, and leaves the rows.
-    pub search-done : file_answer (search_tests l low high rows) ≡ Done
-        → (found_of l low high rows ≡ Rows (length (found l low high)) (length (opened l low high))) × (search_leaves l low high rows ≡ over 0 (found l low high) rows)
+    pub search-done : file_answer (search_tests l low high rows) ≡ Ok tt
+        → (found_of l low high rows ≡ Ok (counts (length (found l low high)) (length (opened l low high)))) × (search_leaves l low high rows ≡ over 0 (found l low high) rows)
     unfolding found_of search_leaves
-    search-done e = given-done (Rows (length (found l low high)) (length (opened l low high))) (over 0 (found l low high) rows) rows e
+    search-done e = given-done (counts (length (found l low high)) (length (opened l low high))) (over 0 (found l low high) rows) rows e
 
     -- The tests are made in their order.
-    pub contents-first : (file_answer (contents_tests l (length l)) ≡ Done → ⊥) → file_answer (search_tests l low high rows) ≡ file_answer (contents_tests l (length l))
+    pub contents-first : (file_answer (contents_tests l (length l)) ≡ Ok tt → ⊥) → file_answer (search_tests l low high rows) ≡ file_answer (contents_tests l (length l))
     contents-first refused = in_front-refused (contents_tests l (length l)) _ refused
 
-    module _ (right : file_answer (contents_tests l (length l)) ≡ Done) where
-      pub opened_second : (file_answer (opened_tests l low high) ≡ Done → ⊥) → file_answer (search_tests l low high rows) ≡ file_answer (opened_tests l low high)
+    module _ (right : file_answer (contents_tests l (length l)) ≡ Ok tt) where
+      pub opened_second : (file_answer (opened_tests l low high) ≡ Ok tt → ⊥) → file_answer (search_tests l low high rows) ≡ file_answer (opened_tests l low high)
       opened_second refused = in_front-done (contents_tests l (length l)) _ refl right ∙ in_front-refused (opened_tests l low high) _ refused
 
-      module _ (good : file_answer (opened_tests l low high) ≡ Done) where
-        room_last : file_answer (search_tests l low high rows) ≡ file_answer ((leb (length (found l low high)) (length rows), Room) ∷ [])
+      module _ (good : file_answer (opened_tests l low high) ≡ Ok tt) where
+        room_last : file_answer (search_tests l low high rows) ≡ file_answer ((leb (length (found l low high)) (length rows), Err Room) ∷ [])
         room_last = in_front-done (contents_tests l (length l)) _ refl right ∙ in_front-done (opened_tests l low high) _ refl good
 
-        pub no_room : leb (length (found l low high)) (length rows) ≡ false → file_answer (search_tests l low high rows) ≡ Room
+        pub no_room : leb (length (found l low high)) (length rows) ≡ false → file_answer (search_tests l low high rows) ≡ Err Room
         no_room short = room_last ∙ stopped _ _ short
 
-        pub room_there : leb (length (found l low high)) (length rows) ≡ true → file_answer (search_tests l low high rows) ≡ Done
+        pub room_there : leb (length (found l low high)) (length rows) ≡ true → file_answer (search_tests l low high rows) ≡ Ok tt
         room_there there = room_last ∙ passed _ _ there ∙ none_left
 
     -- Where nothing is opened, nothing is listed.
-    pub search_nothing : file_answer (contents_tests l (length l)) ≡ Done → length (opened l low high) ≡ 0
-        → (found_of l low high rows ≡ Rows 0 0) × (search_leaves l low high rows ≡ rows)
+    pub search_nothing : file_answer (contents_tests l (length l)) ≡ Ok tt → length (opened l low high) ≡ 0
+        → (found_of l low high rows ≡ Ok (counts 0 0)) × (search_leaves l low high rows ≡ rows)
     search_nothing right none =
         let shut : (ranges : Bool) (i : ℕ) → i < count l → pick (opens l low high i) (asked l ranges i) true ≡ true =
         λ ranges i h. ap (λ t. pick t (asked l ranges i) true) (all_shut none i h) in
         let good = opened-done (none_bad false (shut false)) (none_bad true (shut true)) in
         let no_rows : length (found l low high) ≡ 0 = omega (arith, few-rows) in
         let done = search-done (room_there right good (le-leb (length (found l low high)) (length rows) (omega arith))) in (
-          done.0 ∙ ap₂ Rows no_rows none,
+          done.0 ∙ ap₂ (λ n k. Ok (counts n k)) no_rows none,
           done.1 ∙ ap (λ x. over 0 x rows) (nothing (found l low high) no_rows) ∙ over_nothing 0 rows,
         )

@@ -1,5 +1,6 @@
 -- Each number of a search is given exactly when R110 says: the tests agree with the plain reasons.
 -- Assumes nothing.
+use Rattle.std.specs.Prelude.{Ok, Err}
 use Rattle.std.proofs.Common.{◌≡◌, ℕ, ◌≤◌, Bool, true, false, eqb, ◌⊎◌, ◌↔◌, List, [], ◌∷◌, length, sym, refl, ap, ◌∙◌, subst, inl, inr, ⊎_elim, arith, le-leb}
 use native.Mathlib.Decide.{dec_le, dec_lt, ℕ_discrete}
 use borrow.Author.Tests.{lt-leb}
@@ -7,9 +8,8 @@ use Rattle.lists.specs.Pick.{pick}
 use Rattle.lists.specs.Search.{first_bad}
 use Rattle.lists.proofs.Tests.{false-true}
 use Rattle.lists.proofs.Search.{first-at}
-use Rattle.contents.specs.declared.FileAnswer.{FileAnswer}
-use Rattle.contents.specs.declared.FileAnswer.TheVariants.{Done, Runs, Range, Room}
-use Rattle.contents.specs.Answers.{FileTest, file_answer, number_of}
+use Rattle.contents.specs.declared.FileRefusal.TheVariants.{Runs, Range, Room}
+use Rattle.contents.specs.Answers.{FileAnswer, FileTest, file_answer, number_of}
 use Rattle.contents.specs.Contents.{count, entry_of, contents_tests}
 use Rattle.contents.proofs.Answers.{passed, stopped, none_left, in_front-done, in_front-refused, number-done}
 use Rattle.files.specs.Files.{body_of, bad_runs, bad_range}
@@ -25,7 +25,7 @@ use Rattle.search.proofs.Theorems.{opens_exactly}
 
 -- The answer by these tests is done, or its number is from a to b.
 abbrev Numbered : (a b : ℕ) → List FileTest → Type 0
-Numbered a b xs = (file_answer xs ≡ Done) ⊎ ((a ≤ number_of (file_answer xs)) × (number_of (file_answer xs) ≤ b))
+Numbered a b xs = (file_answer xs ≡ Ok tt) ⊎ ((a ≤ number_of (file_answer xs)) × (number_of (file_answer xs) ≤ b))
 
 no_tests : (a b : ℕ) → Numbered a b []
 no_tests a b = inl none_left
@@ -34,7 +34,7 @@ one_test : (a b : ℕ) (x : FileTest) (xs : List FileTest) → a ≤ number_of x
 one_test a b x xs low high rest = go x.0 refl
   where
     go : (t : Bool) → x.0 ≡ t → Numbered a b (x ∷ xs)
-    go true e = subst (λ r. (r ≡ Done) ⊎ ((a ≤ number_of r) × (number_of r ≤ b))) (sym (passed x xs e)) rest
+    go true e = subst (λ r. (r ≡ Ok tt) ⊎ ((a ≤ number_of r) × (number_of r ≤ b))) (sym (passed x xs e)) rest
     go false e = inr (omega (arith, ap number_of (stopped x xs e)), omega (arith, ap number_of (stopped x xs e)))
 
 contents-numbered : (l : List ℕ) (size : ℕ) → Numbered 8 11 (contents_tests l size)
@@ -45,12 +45,12 @@ contents-numbered l size =
     (one_test 8 11 _ _ (omega arith) (omega arith)
     (one_test 8 11 _ _ (omega arith) (omega arith) (one_test 8 11 _ _ (omega arith) (omega arith) (no_tests 8 11))))))
 
-bodies-numbered : (bad other n : ℕ) → Numbered 13 15 ((eqb bad n, Runs bad) ∷ (eqb other n, Range other) ∷ [])
+bodies-numbered : (bad other n : ℕ) → Numbered 13 15 ((eqb bad n, Err (Runs bad)) ∷ (eqb other n, Err (Range other)) ∷ [])
 bodies-numbered bad other n = one_test 13 15 _ _ (omega arith) (omega arith) (one_test 13 15 _ _ (omega arith) (omega arith) (no_tests 13 15))
 
 module _ (l : List ℕ) where
   abbrev bodies_tests : List FileTest
-  bodies_tests = (eqb (bad_runs l) (count l), Runs (bad_runs l)) ∷ (eqb (bad_range l) (count l), Range (bad_range l)) ∷ []
+  bodies_tests = (eqb (bad_runs l) (count l), Err (Runs (bad_runs l))) ∷ (eqb (bad_range l) (count l), Err (Range (bad_range l))) ∷ []
 
   -- A reason from 8 to 11 is one of the contents.
   contents_reason : {a : FileAnswer} → Reason l a → 8 ≤ number_of a → number_of a ≤ 11 → file_answer (contents_tests l (length l)) ≡ a
@@ -109,7 +109,7 @@ module _ (l : List ℕ) where
     range-opened i = opened-plain i (asked l true i) (TrueRange l i) (range-plain l i)
 
     module _ (rows : List ℕ) where
-      tests_done : Right l → OpenedGood l low high (count l) → OpenedTrue l low high (count l) → file_answer (opened_tests l low high) ≡ Done
+      tests_done : Right l → OpenedGood l low high (count l) → OpenedTrue l low high (count l) → file_answer (opened_tests l low high) ≡ Ok tt
       unfolding runs_test range_test
       tests_done r good all =
           Answers.opened-done l low high (none_found (count l) runs_test Runs_hold runs-opened good) (none_found (count l) range_test Range-holds range-opened all)
@@ -138,8 +138,8 @@ module _ (l : List ℕ) where
       from_room : Right l → OpenedGood l low high (count l) → OpenedTrue l low high (count l) → (a : FileAnswer) × SearchReason l low high rows a
       from_room r good all =
           elim (dec_le (length (found l low high)) (length rows)) [
-            | yes h ↦ (Done, rows_there r good all h)
-            | no h ↦ (Room, short_room r good all (omega arith))
+            | yes h ↦ (Ok tt, rows_there r good all h)
+            | no h ↦ (Err Room, short_room r good all (omega arith))
           ]
 
       -- a block that is not as asked is opened
@@ -157,7 +157,7 @@ module _ (l : List ℕ) where
           elim (dec_lt bad (count l)) [
             | yes h ↦
                 let fails = at-fails (count l) range_test Range-holds range-opened h in (
-                  Range bad,
+                  Err (Range bad),
                   opened_range bad r good h (bad_opened true bad (first-at (count l) range_test h)) (λ t. fails (λ _. t))
                       (before-holds (count l) range_test Range-holds range-opened),
                 )
@@ -171,7 +171,7 @@ module _ (l : List ℕ) where
           elim (dec_lt bad (count l)) [
             | yes h ↦
                 let fails = at-fails (count l) runs_test Runs_hold runs-opened h in (
-                  Runs bad,
+                  Err (Runs bad),
                   opened_runs bad r h (bad_opened false bad (first-at (count l) runs_test h)) (λ t. fails (λ _. t))
                       (before-holds (count l) runs_test Runs_hold runs-opened),
                 )

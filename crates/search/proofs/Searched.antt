@@ -2,6 +2,7 @@
 -- another give what the search of the file gives: number, place, how many rows and blocks, and the rows. A program that
 -- holds no more than the front of the file and one body so gets the same answer.
 -- Assumes nothing.
+use Rattle.std.specs.Prelude.{Ok, Err}
 use Rattle.std.proofs.Common.{◌≡◌, ℕ, zero, suc, ◌<◌, ◌≤◌, Bool, true, false, eqb, leb, List, [], ◌∷◌, ◌++◌, length, sym, refl, ap, ◌∙◌, ap₂, append-nil, add-one, arith}
 use native.Mathlib.Decide.{ℕ_discrete}
 use Rattle.lists.specs.Pick.{pick}
@@ -9,11 +10,10 @@ use Rattle.lists.specs.Tab.{over}
 use Rattle.lists.specs.Passing.{passing}
 use Rattle.lists.proofs.Search.{first_ext}
 use Rattle.lists.proofs.Passing.{passing-none_yet, passing_ext}
-use Rattle.contents.specs.declared.FileAnswer.{FileAnswer}
-use Rattle.contents.specs.declared.FileAnswer.TheVariants.{Done, Range, Room, Runs}
-use Rattle.contents.specs.Answers.{file_answer, number_of, is_done, left}
+use Rattle.contents.specs.declared.FileRefusal.TheVariants.{Range, Room, Runs}
+use Rattle.contents.specs.Answers.{giving, FileAnswer, file_answer, number_of, left}
 use Rattle.contents.specs.Contents.{count, count_or, entry_or, contents_tests}
-use Rattle.contents.proofs.Answers.{in_front-done, in_front-refused, left-refused, number-done}
+use Rattle.contents.proofs.Answers.{in_front-done, in_front-refused, left-refused, refused-same, number-done}
 use Rattle.bodies.specs.Bodies.{block_of}
 use Rattle.bodywise.specs.Steps.{front_of}
 use Rattle.bodywise.proofs.Fronts.{Front, front-right}
@@ -21,10 +21,9 @@ use Rattle.files.specs.Chosen.{chosen_after}
 use Rattle.files.specs.Files.{body_of, has_true_range}
 use Rattle.files.proofs.Files.{good_in}
 use Rattle.files.proofs.Held.{block_is, chosen-refused, chosen-bodies}
-use Rattle.search.specs.declared.Found.TheVariants.{Rows, Refused}
-use Rattle.search.specs.Search.{opens, opened, listed, found, bad_runs_in, bad_range_in, opened_tests, search_tests, found_of, search_leaves}
+use Rattle.search.specs.Search.{counts, opens, opened, listed, found, bad_runs_in, bad_range_in, opened_tests, search_tests, found_of, search_leaves}
 use Rattle.search.specs.Steps.{opens_by, rows_in, rows_after, rows_by, answer_by, searched_by, left_by}
-use Rattle.search.proofs.Answers.{search-refused, contents-first, given-refused}
+use Rattle.search.proofs.Answers.{contents-first}
 use Rattle.search.proofs.Walks.{found_to, front-opens, found_open, found_shut, found_all}
 
 module _ (l front : List ℕ) (held : Front l front) (low high : ℕ) where
@@ -34,7 +33,7 @@ module _ (l front : List ℕ) (held : Front l front) (low high : ℕ) where
 
   -- ---- contents that are right
 
-  module _ (done : file_answer (contents_tests l (length l)) ≡ Done) where
+  module _ (done : file_answer (contents_tests l (length l)) ≡ Ok tt) where
     count-is : count_or front ≡ count l
     count-is = held.count-is done
 
@@ -46,7 +45,7 @@ module _ (l front : List ℕ) (held : Front l front) (low high : ℕ) where
     bodies_are =
         ap (chosen_after (opens_by front low high) front (length l) (body_of l)) count-is
         ∙ chosen-bodies l front held (opens_by front low high) done
-        ∙ ap₂ (λ r t. file_answer ((eqb r (count l), Runs r) ∷ (eqb t (count l), Range t) ∷ []))
+        ∙ ap₂ (λ r t. file_answer ((eqb r (count l), Err (Runs r)) ∷ (eqb t (count l), Err (Range t)) ∷ []))
         (first_ext (count l) (λ i. pick (opens_by front low high i) (good_in l i) true) (λ i. pick (opens l low high i) (good_in l i) true)
         (λ i h. ap (λ t. pick t (good_in l i) true) (same-opens i h)))
         (first_ext (count l) (λ i. pick (opens_by front low high i) (has_true_range l i) true) (λ i. pick (opens l low high i) (has_true_range l i) true)
@@ -88,7 +87,7 @@ module _ (l front : List ℕ) (held : Front l front) (low high : ℕ) where
 
     module _ (rows : List ℕ) where
       abbrev room : FileAnswer
-      room = file_answer ((leb (length (found l low high)) (length rows), Room) ∷ [])
+      room = file_answer ((leb (length (found l low high)) (length rows), Err Room) ∷ [])
 
       -- behind the opened blocks the room decides
       behind : left (file_answer (opened_tests l low high)) room (file_answer (opened_tests l low high)) ≡ file_answer (search_tests l low high rows)
@@ -104,13 +103,13 @@ module _ (l front : List ℕ) (held : Front l front) (low high : ℕ) where
 
       answer-is : answer_by front (length l) (body_of l) low high rows ≡ file_answer (search_tests l low high rows)
       unfolding answer_by
-      answer-is = ap₂ (λ a r. left a (file_answer ((leb (length r) (length rows), Room) ∷ [])) a) bodies_are rows_are ∙ behind
+      answer-is = ap₂ (λ a r. left a (file_answer ((leb (length r) (length rows), Err Room) ∷ [])) a) bodies_are rows_are ∙ behind
 
       right-found : searched_by front (length l) (body_of l) low high rows ≡ found_of l low high rows
       unfolding searched_by found_of
       right-found =
-          ap₂ (λ r b. pick (is_done (answer_by front (length l) (body_of l) low high rows)) (Rows (length r) (length b)) (Refused (answer_by front (length l) (body_of l) low high rows))) rows_are blocks_are
-          ∙ ap (λ a. pick (is_done a) (Rows (length (found l low high)) (length (opened l low high))) (Refused a)) answer-is
+          ap₂ (λ r b. giving (answer_by front (length l) (body_of l) low high rows) (counts (length r) (length b))) rows_are blocks_are
+          ∙ ap (λ a. giving a (counts (length (found l low high)) (length (opened l low high)))) answer-is
 
       right-left : left_by front (length l) (body_of l) low high rows ≡ search_leaves l low high rows
       unfolding left_by search_leaves
@@ -122,23 +121,29 @@ module _ (l front : List ℕ) (held : Front l front) (low high : ℕ) where
     abbrev refusal : FileAnswer
     refusal = file_answer (contents_tests l (length l))
 
-    refused : refusal ≡ Done → ⊥
+    refused : refusal ≡ Ok tt → ⊥
     refused d = n (ap number_of d)
 
     answer-stays : answer_by front (length l) (body_of l) low high rows ≡ refusal
     unfolding answer_by
     answer-stays =
-        ap (λ a. left a (file_answer ((leb (length (rows_by front (body_of l) low high)) (length rows), Room) ∷ [])) a)
+        ap (λ a. left a (file_answer ((leb (length (rows_by front (body_of l) low high)) (length rows), Err Room) ∷ [])) a)
         (chosen-refused l front held (opens_by front low high) refused (count_or front))
         ∙ left-refused refusal _ refusal n
 
     both-refused : (searched_by front (length l) (body_of l) low high rows ≡ found_of l low high rows)
         × (left_by front (length l) (body_of l) low high rows ≡ search_leaves l low high rows)
-    unfolding searched_by left_by
+    unfolding searched_by left_by found_of search_leaves
     both-refused =
-        let mine = given-refused (Rows (length (rows_by front (body_of l) low high)) (length (passing 0 (count_or front) (opens_by front low high)))) (over 0 (rows_by front (body_of l) low high) rows) rows answer-stays n in
-        let its = search-refused l low high rows refusal (contents-first l low high rows refused) n in
-        (mine.0 ∙ sym its.0, mine.1 ∙ sym its.1)
+        let first = contents-first l low high rows refused in
+        let mine = counts (length (rows_by front (body_of l) low high)) (length (passing 0 (count_or front) (opens_by front low high))) in
+        let its = counts (length (found l low high)) (length (opened l low high)) in (
+          ap (λ a. giving a mine) answer-stays ∙ refused-same refusal n mine its ∙ sym (ap (λ a. giving a its) first),
+          ap (λ a. left a (over 0 (rows_by front (body_of l) low high) rows) rows) answer-stays
+              ∙ left-refused refusal _ rows n
+              ∙ sym (left-refused refusal _ rows n)
+              ∙ sym (ap (λ a. left a (over 0 (found l low high) rows) rows) first),
+        )
 
   -- The contents and the opened bodies, in their order, give the search's answer and its rows.
   pub searched_is : (rows : List ℕ)

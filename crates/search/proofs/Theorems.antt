@@ -1,29 +1,29 @@
 -- The theorems on the search (R107 to R109): which blocks are opened, that skipping the others loses no row of an
 -- accepted file, that the rows are listed once each and rising, and what is read off an answer.
 -- Assumes nothing.
+use Rattle.std.specs.Prelude.{Result, Ok, Err}
 use Rattle.std.proofs.Common.{◌≡◌, ℕ, ◌/◌, ◌%◌, ◌<◌, ◌≤◌, min, max, Bool, true, false, eqb, leb, ◌↔◌, List, length, get_or, take, drop, sym, refl, ap, ◌∙◌, ap₂, inl, inr, ⊎_elim, arith, eq-eqb, eqb-true, le-leb, leb-true}
 use Rattle.lists.specs.Numbers.{Elements}
-use Rattle.lists.specs.Pick.{pick, both, either}
+use Rattle.lists.specs.Tab.{over}
+use Rattle.lists.specs.Pick.{both, either}
 use Rattle.lists.specs.Passing.{passing}
 use Rattle.lists.specs.Members.{Stands, Rising}
 use Rattle.lists.proofs.Overs.{over-front, over-rest}
 use Rattle.lists.proofs.Tests.{both_true, either_true, not_then, false-true}
 use Rattle.lists.proofs.Members.{stands-passes, passes-stands, passing-rises}
 use Rattle.lists.proofs.Passing.{passing_ext}
-use Rattle.contents.specs.declared.FileAnswer.{FileAnswer}
-use Rattle.contents.specs.declared.FileAnswer.TheVariants.{Done}
 use Rattle.contents.specs.declared.Range.{Range}
-use Rattle.contents.specs.Answers.{file_answer, is_done, left, number_of}
+use Rattle.contents.specs.declared.FileRefusal.{FileRefusal}
+use Rattle.contents.specs.Answers.{answer_of, giving, FileAnswer, file_answer, left, number_of}
 use Rattle.contents.specs.Contents.{edition, count, range_of}
-use Rattle.contents.proofs.Answers.{says_answer}
+use Rattle.contents.proofs.Answers.{says_answer, left-refused, left-err}
 use Rattle.files.specs.Files.{block_in, row_count, row_at, file_tests}
 use Rattle.bodywise.proofs.Told.{whole}
 use Rattle.files.proofs.Ranges.{contents-right, file-runs, file_spans}
 use Rattle.search.specs.declared.Found.{Found}
-use Rattle.search.specs.declared.Found.TheVariants.{Rows, Refused}
 use Rattle.search.specs.Reasons.{Common, Opened, RowBetween}
-use Rattle.search.specs.Search.{between, meets, opens, opened, listed, found, search_tests, found_of, search_leaves, answer_of, rows_found, blocks_opened}
-use Rattle.search.proofs.Answers.{search-refused, search-done}
+use Rattle.search.specs.Search.{between, meets, opens, opened, listed, found, search_tests, found_of, search_leaves, counts, rows_found, blocks_opened}
+use Rattle.search.proofs.Answers.{search-done}
 use Rattle.search.proofs.Blocks.{in_long}
 
 -- The test of a range says that it has a number in common with the bounds.
@@ -68,7 +68,7 @@ between_exactly low high v = (
   λ h. ap₂ both (le-leb low v h.0) (le-leb v high h.1),
 )
 
-module _ (l : List ℕ) (low high : ℕ) (bytes : Elements 8 l) (done : file_answer (file_tests l) ≡ Done) where
+module _ (l : List ℕ) (low high : ℕ) (bytes : Elements 8 l) (done : file_answer (file_tests l) ≡ Ok tt) where
   -- In an accepted file of edition 2, a block whose range misses the bounds has no row between them.
   pub missed : edition l ≡ 2 → (i : ℕ) → i < count l → meets (range_of l i) low high ≡ false → (j : ℕ) → j < 1024
       → between low high (get_or (block_in l i) j 0) ≡ false
@@ -156,7 +156,7 @@ unfolding opened
 opened-rising l low high = passing-rises 0 (opens l low high) (count l)
 
 -- A search that is done leaves the rows at the front of the room, and what stands behind them as it was.
-module _ (l : List ℕ) (low high : ℕ) (rows : List ℕ) (done : file_answer (search_tests l low high rows) ≡ Done) where
+module _ (l : List ℕ) (low high : ℕ) (rows : List ℕ) (done : file_answer (search_tests l low high rows) ≡ Ok tt) where
   pub search-front : take (length (found l low high)) (search_leaves l low high rows) ≡ found l low high
   search-front = ap (take (length (found l low high))) (search-done l low high rows done).1 ∙ over-front (found l low high) rows
 
@@ -166,7 +166,8 @@ module _ (l : List ℕ) (low high : ℕ) (rows : List ℕ) (done : file_answer (
 -- A refused search leaves the room for rows as it was.
 pub search-unchanged : (l : List ℕ) (low high : ℕ) (rows : List ℕ) → (number_of (file_answer (search_tests l low high rows)) ≡ 0 → ⊥)
     → search_leaves l low high rows ≡ rows
-search-unchanged l low high rows n = (search-refused l low high rows (file_answer (search_tests l low high rows)) refl n).1
+unfolding search_leaves
+search-unchanged l low high rows n = left-refused (file_answer (search_tests l low high rows)) (over 0 (found l low high) rows) rows n
 
 -- What is given back says the answer of the tests, and how many rows and blocks where the search is done, and else 0.
 module _ (l : List ℕ) (low high : ℕ) (rows : List ℕ) where
@@ -174,20 +175,20 @@ module _ (l : List ℕ) (low high : ℕ) (rows : List ℕ) where
   answer = file_answer (search_tests l low high rows)
 
   abbrev given : Found
-  given = Rows (length (found l low high)) (length (opened l low high))
+  given = counts (length (found l low high)) (length (opened l low high))
 
   pub search_answers : answer_of (found_of l low high rows) ≡ answer
   unfolding found_of
-  search_answers = says_answer answer_of given Refused refl (λ _. refl) answer
+  search_answers = says_answer answer given
 
   -- by whether the search is done
-  read_off : (read : Found → ℕ) → ((a : FileAnswer) → read (Refused a) ≡ 0) → read (found_of l low high rows) ≡ left answer (read given) 0
+  read_off : (read : Result Found FileRefusal → ℕ) → ((r : FileRefusal) → read (Err r) ≡ 0) → read (found_of l low high rows) ≡ left answer (read (Ok given)) 0
   unfolding found_of
-  read_off read none = go (is_done answer)
+  read_off read none = go answer
     where
-      go : (b : Bool) → read (pick b given (Refused answer)) ≡ pick b (read given) 0
-      go true = refl
-      go false = none answer
+      go : (a : FileAnswer) → read (giving a given) ≡ left a (read (Ok given)) 0
+      go (Ok _) = refl
+      go (Err r) = none r ∙ sym (left-err r (read (Ok given)) 0)
 
   pub search-rows : rows_found (found_of l low high rows) ≡ left answer (length (found l low high)) 0
   search-rows = read_off rows_found (λ _. refl)

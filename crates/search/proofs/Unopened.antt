@@ -1,6 +1,7 @@
 -- A block that is not opened cannot change the answer: two files that differ only in the bodies of such blocks give the
 -- same answer and leave the same rows.
 -- Assumes nothing.
+use Rattle.std.specs.Prelude.{Err}
 use Rattle.std.proofs.Common.{◌≡◌, ℕ, zero, suc, ◌+◌, ◌*◌, ◌/◌, ◌%◌, ◌<◌, ◌≤◌, Bool, true, false, eqb, leb, List, [], ◌∷◌, ◌++◌, length, get_or, sym, refl, ap, ◌∙◌, ap₂, arith, ne_eqb}
 use native.Mathlib.Decide.{ℕ_discrete}
 use Rattle.lists.specs.Pick.{pick, both, either}
@@ -10,15 +11,14 @@ use Rattle.lists.specs.Passing.{passing}
 use Rattle.lists.proofs.Search.{first_ext}
 use Rattle.lists.proofs.Passing.{passing_ext}
 use Rattle.little.specs.Little.{little}
-use Rattle.contents.specs.declared.FileAnswer.TheVariants.{BadEntry, Cut, Edition, Over, Range, Room, Runs}
-use Rattle.contents.specs.Answers.{file_answer, is_done, left}
+use Rattle.contents.specs.declared.FileRefusal.TheVariants.{BadEntry, Cut, Edition, Over, Range, Room, Runs}
+use Rattle.contents.specs.Answers.{giving, file_answer, left}
 use Rattle.contents.specs.Contents.{edition, count, contents_size, entry_at, entry_of, range_at_lem, range_of, any_range, is_laid_out, is_taken_in, is_ordered, is_right, bad_entry, bodies_size, body_start, contents_tests}
 use Rattle.contents.proofs.Sizes.{size-entry, size-range, size-before}
 use Rattle.bodies.specs.Bodies.{block_of, has_good_runs}
 use Rattle.bodies.specs.Ranges.{is_range}
 use Rattle.files.specs.Files.{body_of, block_in, has_true_range, row_count, row_at}
-use Rattle.search.specs.declared.Found.TheVariants.{Rows, Refused}
-use Rattle.search.specs.Search.{between, meets, opens, opened, listed, found, bad_runs_in, bad_range_in, search_tests, found_of, search_leaves}
+use Rattle.search.specs.Search.{counts, between, meets, opens, opened, listed, found, bad_runs_in, bad_range_in, search_tests, found_of, search_leaves}
 use Rattle.search.specs.Unopened.{SameOpened}
 
 -- A number is the same where its bytes are.
@@ -103,12 +103,12 @@ module _ (l m : List ℕ) (low high : ℕ) (same : SameOpened l m low high) wher
   -- So they have the same tests of the contents,
   contents-same : contents_tests m (length m) ≡ contents_tests l (length l)
   contents-same j =
-      (leb 4 (same.size j), Cut)
-      ∷ (both (either (eqb (edition-same j) 1) (eqb (edition-same j) 2)) (leb (count_same j) 256), Edition)
-      ∷ (leb (contents_size (edition-same j) (count_same j)) (same.size j), Cut)
-      ∷ (eqb (bad_same j) (count_same j), BadEntry (bad_same j))
-      ∷ (leb (end_same j) (same.size j), Cut)
-      ∷ (leb (same.size j) (end_same j), Over)
+      (leb 4 (same.size j), Err Cut)
+      ∷ (both (either (eqb (edition-same j) 1) (eqb (edition-same j) 2)) (leb (count_same j) 256), Err Edition)
+      ∷ (leb (contents_size (edition-same j) (count_same j)) (same.size j), Err Cut)
+      ∷ (eqb (bad_same j) (count_same j), Err (BadEntry (bad_same j)))
+      ∷ (leb (end_same j) (same.size j), Err Cut)
+      ∷ (leb (same.size j) (end_same j), Err Over)
       ∷ []
 
   -- the same opened blocks, which are alike,
@@ -168,11 +168,11 @@ module _ (l m : List ℕ) (low high : ℕ) (same : SameOpened l m low high) wher
     answer-same j =
         file_answer
         (contents-same j
-        ++ (((eqb (runs_same j) (count_same j), Runs (runs_same j)) ∷ (eqb (ranges_same j) (count_same j), Range (ranges_same j)) ∷ []) ++ ((leb (length (found-same j)) (length rows), Room) ∷ [])))
+        ++ (((eqb (runs_same j) (count_same j), Err (Runs (runs_same j))) ∷ (eqb (ranges_same j) (count_same j), Err (Range (ranges_same j))) ∷ []) ++ ((leb (length (found-same j)) (length rows), Err Room) ∷ [])))
 
     pub unopened_answer : found_of m low high rows ≡ found_of l low high rows
     unfolding found_of
-    unopened_answer j = pick (is_done (answer-same j)) (Rows (length (found-same j)) (length (opened-same j))) (Refused (answer-same j))
+    unopened_answer j = giving (answer-same j) (counts (length (found-same j)) (length (opened-same j)))
 
     pub unopened_rows : search_leaves m low high rows ≡ search_leaves l low high rows
     unfolding search_leaves

@@ -1,6 +1,7 @@
 -- The laws behind the walks over the blocks: what the opened blocks are known to be, and the rows that are found up to
 -- a block.
 -- Assumes nothing.
+use Rattle.std.specs.Prelude.{Ok}
 use Rattle.std.proofs.Common.{◌≡◌, ℕ, ◌+◌, ◌*◌, ◌<◌, ◌≤◌, Bool, true, false, eqb, List, ◌++◌, length, sym, ap, ◌∙◌, ap₂, append-nil, zero-add, arith, length-append}
 use Rattle.lists.specs.Pick.{pick, either}
 use Rattle.lists.specs.Tab.{over}
@@ -8,7 +9,6 @@ use Rattle.lists.specs.Passing.{passing}
 use Rattle.lists.proofs.Overs.{over_append}
 use Rattle.lists.proofs.Search.{first-before}
 use Rattle.lists.proofs.Passing.{passing-split, passing_ext, passing_nothing}
-use Rattle.contents.specs.declared.FileAnswer.TheVariants.{Done}
 use Rattle.contents.specs.Answers.{file_answer}
 use Rattle.contents.specs.Contents.{count, contents_tests}
 use Rattle.bodywise.proofs.Fronts.{Front, whole-front}
@@ -23,7 +23,7 @@ use Rattle.search.proofs.Listing.{pass_mono}
 abbrev pub found_to : (l : List ℕ) (low high i : ℕ) → List ℕ
 found_to l low high i = passing 0 (i * 1024) (listed l low high)
 
-module _ (l : List ℕ) (low high : ℕ) (done : file_answer (contents_tests l (length l)) ≡ Done) (i : ℕ) (h : i < count l) where
+module _ (l : List ℕ) (low high : ℕ) (done : file_answer (contents_tests l (length l)) ≡ Ok tt) (i : ℕ) (h : i < count l) where
   -- A front that tells of the contents what the file does tells which blocks are opened,
   pub front-opens : {front : List ℕ} → Front l front → opens_by front low high i ≡ opens l low high i
   unfolding opens_by opens

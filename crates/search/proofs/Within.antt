@@ -1,6 +1,7 @@
 -- The laws behind the listing of a block: where its range lies within the bounds every row of it is found, and a value
 -- lies between the bounds where it is no further above the lower one than the upper one is.
 -- Assumes nothing.
+use Rattle.std.specs.Prelude.{Ok}
 use Rattle.std.proofs.Common.{◌≡◌, ℕ, zero, suc, ◌+◌, ◌-◌, ◌*◌, ◌%◌, ◌<◌, ◌≤◌, Bool, true, false, eqb, leb, List, [], ◌∷◌, ◌++◌, map, length, get_or, take, set, sym, refl, ap, ◌∙◌, ap₂, add-zero, add_assoc, mod-eq_of_lt, zero-add, add-one, arith, eqb-true, le-leb, leb-false, leb-true}
 use mir.Val.{bool_byte}
 use lib.ListN.{length-map, get_or-map}
@@ -18,7 +19,6 @@ use Rattle.rows.specs.Rows.{add_of, splat_of}
 use Rattle.lists.proofs.Passing.{one, passing-none_yet, passing-next, passing_ext, passing-moved, map-passing}
 use Rattle.lists.proofs.Lows.{lowest_bound}
 use Rattle.lists.proofs.Highs.{highest_bound}
-use Rattle.contents.specs.declared.FileAnswer.TheVariants.{Done}
 use Rattle.contents.specs.Answers.{file_answer}
 use Rattle.contents.specs.Contents.{edition, count, range_of, edition_or, range_or, contents_tests}
 use Rattle.bodies.specs.Ranges.{is_range}
@@ -40,7 +40,7 @@ passing_all s (suc n) test all =
     ∙ ap (λ m. tab m (λ j. s + j)) (add-one n)
 
 -- The rows of a block whose range lies within the bounds are all found.
-module _ (l : List ℕ) (low high i : ℕ) (done : file_answer (contents_tests l (length l)) ≡ Done) (h : i < count l) (is_true : has_true_range l i ≡ true)
+module _ (l : List ℕ) (low high i : ℕ) (done : file_answer (contents_tests l (length l)) ≡ Ok tt) (h : i < count l) (is_true : has_true_range l i ≡ true)
     (inside : within_by l low high i ≡ true) where
   inner : both (leb low (range_or l i).smallest) (leb (range_or l i).largest high) ≡ true
   inner = (both_true (eqb (edition_or l) 2) (both (leb low (range_or l i).smallest) (leb (range_or l i).largest high)) inside).1

@@ -2,11 +2,10 @@
 -- the order of R110. How many rows there are to list is taken from Search. It guards the tests there: that a search
 -- gets an answer exactly when it has the reason for it here is a theorem.
 -- Assumes nothing.
-use Rattle.std.specs.Prelude.{◌≡◌, ℕ, ◌<◌, ◌≤◌, ◌⊎◌, List, length}
-use Rattle.contents.specs.declared.FileAnswer.{FileAnswer}
-use Rattle.contents.specs.declared.FileAnswer.TheVariants.{Done, Runs, Room, Range as FalseRange}
+use Rattle.std.specs.Prelude.{◌≡◌, ℕ, ◌<◌, ◌≤◌, ◌⊎◌, List, length, Ok, Err}
+use Rattle.contents.specs.declared.FileRefusal.TheVariants.{Runs, Room, Range as FalseRange}
 use Rattle.contents.specs.declared.Range.{Range}
-use Rattle.contents.specs.Answers.{number_of}
+use Rattle.contents.specs.Answers.{FileAnswer, number_of}
 use Rattle.contents.specs.Contents.{edition, count, entry_of, range_of}
 use Rattle.files.specs.Files.{body_of, row_count, row_at}
 use Rattle.files.specs.Reasons.{GoodRuns, TrueRange, Right, Reason}
@@ -38,16 +37,16 @@ pub data SearchReason (l : List ℕ) (low high : ℕ) (rows : List ℕ) : FileAn
   of_contents : (a : FileAnswer) → Reason l a → 8 ≤ number_of a → number_of a ≤ 11 → SearchReason l low high rows a
   -- 13: block p is the lowest opened one with a run index out of range.
   opened_runs : (p : ℕ) → Right l → p < count l → Opened l low high p → (GoodRuns (entry_of l p) (body_of l p) → ⊥) → OpenedGood l low high p
-      → SearchReason l low high rows (Runs p)
+      → SearchReason l low high rows (Err (Runs p))
   -- 15: block p is the lowest opened one whose range is not the one that its entry says.
   opened_range : (p : ℕ) → Right l → OpenedGood l low high (count l) → p < count l → Opened l low high p → (TrueRange l p → ⊥) → OpenedTrue l low high p
-      → SearchReason l low high rows (FalseRange p)
+      → SearchReason l low high rows (Err (FalseRange p))
   -- 14: there is no room for the rows.
   short_room : Right l → OpenedGood l low high (count l) → OpenedTrue l low high (count l) → length rows < length (found l low high)
-      → SearchReason l low high rows Room
+      → SearchReason l low high rows (Err Room)
   -- 0: nothing of that.
   rows_there : Right l → OpenedGood l low high (count l) → OpenedTrue l low high (count l) → length (found l low high) ≤ length rows
-      → SearchReason l low high rows Done
+      → SearchReason l low high rows (Ok tt)
 
 -- Row p of the file lies between the bounds.
 abbrev pub RowBetween : (l : List ℕ) (low high p : ℕ) → Type 0

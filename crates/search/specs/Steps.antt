@@ -4,20 +4,19 @@
 --
 -- `front` is the front of the file, which has the contents, and `low` and `high` are the bounds, both included.
 -- Assumes nothing.
-use Rattle.std.specs.Prelude.{ℕ, zero, suc, ◌-◌, ◌*◌, Bool, List, [], ◌∷◌, ◌++◌, length, ◌==◌, nat_le, nat_lt, slice_index}
+use Rattle.std.specs.Prelude.{ℕ, zero, suc, ◌-◌, ◌*◌, Bool, List, [], ◌∷◌, ◌++◌, length, ◌==◌, nat_le, nat_lt, slice_index, Result, Err}
 use Rattle.lists.specs.Tests.{long}
 use Rattle.lists.specs.Pick.{pick, either}
 use Rattle.lists.specs.Tab.{over}
 use Rattle.lists.specs.Passing.{passing}
-use Rattle.contents.specs.declared.FileAnswer.TheVariants.{Beyond, Block, Room}
-use Rattle.contents.specs.declared.FileAnswer.{FileAnswer}
-use Rattle.contents.specs.Answers.{FileTest, file_answer, is_done, left}
+use Rattle.contents.specs.declared.FileRefusal.{FileRefusal}
+use Rattle.contents.specs.declared.FileRefusal.TheVariants.{Beyond, Block, Room}
+use Rattle.contents.specs.Answers.{FileAnswer, FileTest, file_answer, left, giving}
 use Rattle.contents.specs.Contents.{edition_or, count_or, entry_or, range_or}
 use Rattle.bodies.specs.Bodies.{block_of}
 use Rattle.files.specs.Chosen.{chosen_after}
 use Rattle.search.specs.declared.Found.{Found}
-use Rattle.search.specs.declared.Found.TheVariants.{Rows, Refused}
-use Rattle.search.specs.Search.{between, meets}
+use Rattle.search.specs.Search.{between, meets, counts}
 
 -- By the contents alone block i is opened where the range that its entry says and the bounds have a number in common,
 -- or the edition is 1. Where the entry is not there, its range is every number.
@@ -40,16 +39,14 @@ rows_in block i low high = found_in block (i * 1024) low high
 -- is room for them.
 abbrev pub listed_tests : (block : List ℕ) (i low high : ℕ) (rows : List ℕ) → List FileTest
 listed_tests block i low high rows =
-    (long 1024 block, Block)
-    ∷ (nat_lt i 256, Beyond)
-    ∷ (nat_le (length (rows_in block i low high)) (length rows), Room)
+    (long 1024 block, Err Block)
+    ∷ (nat_lt i 256, Err Beyond)
+    ∷ (nat_le (length (rows_in block i low high)) (length rows), Err Room)
     ∷ []
 
 -- The call gives how many rows it lists, of one block, or the refusal,
-unfoldable pub listed_of : (block : List ℕ) (i low high : ℕ) (rows : List ℕ) → Found
-listed_of block i low high rows =
-    pick (is_done (file_answer (listed_tests block i low high rows))) (Rows (length (rows_in block i low high)) 1)
-    (Refused (file_answer (listed_tests block i low high rows)))
+unfoldable pub listed_of : (block : List ℕ) (i low high : ℕ) (rows : List ℕ) → Result Found FileRefusal
+listed_of block i low high rows = giving (file_answer (listed_tests block i low high rows)) (counts (length (rows_in block i low high)) 1)
 
 -- and leaves them at the front of the room.
 unfoldable pub listed_leaves : (block : List ℕ) (i low high : ℕ) (rows : List ℕ) → List ℕ
@@ -71,15 +68,14 @@ rows_by front bodies low high = rows_after front bodies low high (count_or front
 unfoldable pub answer_by : (front : List ℕ) (size : ℕ) (bodies : ℕ → List ℕ) (low high : ℕ) (rows : List ℕ) → FileAnswer
 answer_by front size bodies low high rows =
     left (chosen_after (opens_by front low high) front size bodies (count_or front))
-    (file_answer ((nat_le (length (rows_by front bodies low high)) (length rows), Room) ∷ []))
+    (file_answer ((nat_le (length (rows_by front bodies low high)) (length rows), Err Room) ∷ []))
     (chosen_after (opens_by front low high) front size bodies (count_or front))
 
 -- So the steps give how many rows they list and how many blocks they opened, or the refusal,
-unfoldable pub searched_by : (front : List ℕ) (size : ℕ) (bodies : ℕ → List ℕ) (low high : ℕ) (rows : List ℕ) → Found
+unfoldable pub searched_by : (front : List ℕ) (size : ℕ) (bodies : ℕ → List ℕ) (low high : ℕ) (rows : List ℕ) → Result Found FileRefusal
 searched_by front size bodies low high rows =
-    pick (is_done (answer_by front size bodies low high rows))
-    (Rows (length (rows_by front bodies low high)) (length (passing 0 (count_or front) (opens_by front low high))))
-    (Refused (answer_by front size bodies low high rows))
+    giving (answer_by front size bodies low high rows)
+    (counts (length (rows_by front bodies low high)) (length (passing 0 (count_or front) (opens_by front low high))))
 
 -- and leave the rows at the front of the room.
 unfoldable pub left_by : (front : List ℕ) (size : ℕ) (bodies : ℕ → List ℕ) (low high : ℕ) (rows : List ℕ) → List ℕ

@@ -16,76 +16,38 @@ ghost use Rattle.lists.specs.Tab.{tab, over};
 ghost use Rattle.contents.specs.Answers.{file_answer};
 ghost use Rattle.contents.specs.Contents.{edition as edition_in, count as count_in, body_start, ContentsTaken};
 ghost use Rattle.files.specs.Files.{block_in};
-ghost use Rattle.search.specs.Search.{between, meets as meets_in, opened, found, opened_tests, found_of, search_leaves, answer_of, rows_found, blocks_opened};
+ghost use Rattle.search.specs.Search.{between, meets as meets_in, opened, found, opened_tests, found_of, search_leaves};
 ghost use Rattle.search.specs.InnerBlocks.{asked, bad_in, within_by};
 ghost use Rattle.search.specs.Steps.{opens_by, found_in, listed_of, listed_leaves};
 
-use contents::{FileAnswer, Range, count, edition, range_or};
+use contents::{FileAnswer, FileRefusal, Range, count, edition, range_or};
 use files::{block_from, is_good_from, is_true_in};
-use rows::t64::{splat, store, wrapping_add};
+use rows::{splat, store, wrapping_add};
 use std::num::{wrapping_add_u64, wrapping_sub_u64};
 
-// How many rows were listed and how many blocks were opened for them, or the refusal.
+// How many rows were listed, and how many blocks were opened for them.
 #[derive(Clone, Copy)]
-pub enum Found {
-    Rows(usize, usize),
-    Refused(FileAnswer),
-}
-
-impl Found {
-    // The answer in the terms of the other calls.
-    pub fn answer(self) -> FileAnswer
-        ensures { result ≡ answer_of self }
-    {
-        match self {
-            Found::Rows(_, _) => FileAnswer::Done,
-            Found::Refused(a) => a,
-        }
-    }
-
-    // How many rows; 0 after a refusal.
-    pub fn rows(self) -> usize
-        ensures { result ≡ rows_found self }
-    {
-        match self {
-            Found::Rows(n, _) => n,
-            Found::Refused(_) => 0,
-        }
-    }
-
-    // How many blocks were opened; 0 after a refusal.
-    pub fn opened(self) -> usize
-        ensures { result ≡ blocks_opened self }
-    {
-        match self {
-            Found::Rows(_, k) => k,
-            Found::Refused(_) => 0,
-        }
-    }
+pub struct Found {
+    pub rows: usize,
+    pub opened: usize,
 }
 
 // Lists the rows of the file whose value lies between the bounds.
-pub fn search(file: &[u8], low: u64, high: u64, rows: &mut [u64]) -> Found
+pub fn search(file: &[u8], low: u64, high: u64, rows: &mut [u64]) -> Result<Found, FileRefusal>
     ensures value { result ≡ found_of file.now low high rows.old }
     ensures rows_after { rows.new ≡ search_leaves file.now low high rows.old }
 {
-    let answer = contents::check(file, file.len());
-    if answer.number() != 0 {
-        return Found::Refused(answer);
-    }
+    contents::check(file, file.len())?;
     let k = count_opened(file, low, high);
     if k == 0 {
-        return Found::Rows(0, 0);
+        return Ok(Found { rows: 0, opened: 0 });
     }
-    let checked = check_opened(file, low, high);
-    if checked.number() != 0 {
-        return Found::Refused(checked);
-    }
+    check_opened(file, low, high)?;
     if !has_room(file, low, high, k, rows.len()) {
-        return Found::Refused(FileAnswer::Room);
+        return Err(FileRefusal::Room);
     }
     let n = list_rows(file, low, high, rows);
-    Found::Rows(n, k)
+    Ok(Found { rows: n, opened: k })
 }
 
 // Whether a range and the bounds have a number in common.
@@ -124,12 +86,10 @@ fn count_opened(file: &[u8], low: u64, high: u64) -> usize
 {
     let n = count(file);
     let mut k = 0;
-    let mut i = 0;
-    while i < n {
+    for i in 0..n {
         if opens(file, i, low, high) {
             k += 1;
         }
-        i += 1;
     }
     k
 }
@@ -143,16 +103,16 @@ fn check_opened(file: &[u8], low: u64, high: u64) -> FileAnswer
     let n = count(file);
     let bad = lowest_bad(file, low, high, false);
     if bad < n {
-        return FileAnswer::Runs(bad);
+        return Err(FileRefusal::Runs(bad));
     }
     if edition(file) == 1 {
-        return FileAnswer::Done;
+        return Ok(());
     }
     let other = lowest_bad(file, low, high, true);
     if other < n {
-        return FileAnswer::Range(other);
+        return Err(FileRefusal::Range(other));
     }
-    FileAnswer::Done
+    Ok(())
 }
 
 // The lowest opened block that is not as asked, and the count where there is none, in a file whose contents are right.
@@ -264,22 +224,28 @@ fn list_rows(file: &[u8], low: u64, high: u64, rows: &mut [u64]) -> usize
 // Lists the rows of block i, which was laid down, whose value lies between the bounds: for a program that does not hold
 // the file, and has the block from bodywise. No file has block 256 or a higher one, so such a number is refused. The
 // answer is how many rows they are, and one opened block: these add up to the answer of the search.
-pub fn rows_in(block: &[u64], i: usize, low: u64, high: u64, rows: &mut [u64]) -> Found
+pub fn rows_in(
+    block: &[u64],
+    i: usize,
+    low: u64,
+    high: u64,
+    rows: &mut [u64],
+) -> Result<Found, FileRefusal>
     ensures value { result ≡ listed_of block.now i low high rows.old }
     ensures rows_after { rows.new ≡ listed_leaves block.now i low high rows.old }
 {
     if block.len() != 1024 {
-        return Found::Refused(FileAnswer::Block);
+        return Err(FileRefusal::Block);
     }
     if 256 <= i {
-        return Found::Refused(FileAnswer::Beyond);
+        return Err(FileRefusal::Beyond);
     }
     if !block_fits(block, low, high, rows.len()) {
-        return Found::Refused(FileAnswer::Room);
+        return Err(FileRefusal::Room);
     }
     let mut found = [0u64; 1024];
     let n = list_block(block, i * 1024, low, high, 0, &mut found, rows);
-    Found::Rows(n, 1)
+    Ok(Found { rows: n, opened: 1 })
 }
 
 // Whether there is room for the rows of a block. It has at most 1,024, and where that many fit nothing is counted.
@@ -302,7 +268,7 @@ fn count_from(file: &[u8], i: usize, at: usize, low: u64, high: u64) -> usize
     ensures { result ≡ length (found_in (block_in file.now i) (i * 1024) low high) }
 {
     let mut block = [0u64; 1024];
-    block_from(file, i, at, &mut block);
+    let _ = block_from(file, i, at, &mut block);
     count_block(&block, low, high)
 }
 
@@ -311,12 +277,10 @@ fn count_block(block: &[u64], low: u64, high: u64) -> usize
     ensures { result ≡ length (found_in block.now 0 low high) }
 {
     let mut k = 0;
-    let mut j = 0;
-    while j < block.len() {
-        if lies(block[j], low, high) {
+    for value in block {
+        if lies(*value, low, high) {
             k += 1;
         }
-        j += 1;
     }
     k
 }
@@ -362,7 +326,7 @@ fn list_from(
         list_all(i * 1024, k, rows);
         return k + 1024;
     }
-    block_from(file, i, at, block);
+    let _ = block_from(file, i, at, block);
     list_block(block, i * 1024, low, high, k, found, rows)
 }
 
@@ -390,10 +354,8 @@ fn sixteen(first: usize) -> [u64; 16]
     ensures { result ≡ tab 16 (λ l. first + l) }
 {
     let mut x = [0u64; 16];
-    let mut l = 0;
-    while l < 16 {
+    for l in 0..16 {
         x[l] = (first + l) as u64;
-        l += 1;
     }
     x
 }
@@ -446,16 +408,12 @@ fn gather(block: &[u64], low: u64, high: u64, found: &mut [u64]) -> usize
     }
     let span = high - low;
     let mut n = 0;
-    let mut o = 0;
-    while o < 128 {
-        let mut i = 0;
-        while i < 8 {
+    for o in 0..128 {
+        for i in 0..8 {
             let j = o * 8 + i;
             found[n] = j as u64;
             n += (wrapping_sub_u64(block[j], low) <= span) as usize;
-            i += 1;
         }
-        o += 1;
     }
     n
 }
@@ -465,9 +423,7 @@ fn put_rows(places: &[u64], first: usize, k: usize, rows: &mut [u64])
     requires { k + length places.now ≤ length rows.old }
     ensures { rows.new ≡ over k (map (plus 64 first) places.now) rows.old }
 {
-    let mut q = 0;
-    while q < places.len() {
-        rows[k + q] = wrapping_add_u64(first as u64, places[q]);
-        q += 1;
+    for (q, place) in places.iter().enumerate() {
+        rows[k + q] = wrapping_add_u64(first as u64, *place);
     }
 }

@@ -6,8 +6,8 @@ use mathlib.Core.Path.{◌≡◌, ◌∙◌}
 use Prim.Native.Nat.{ℕ, ◌*◌, ◌≤◌, ◌<◌}
 use native.Mathlib.Omega.{arith}
 use lib.ListN.{length, drop}
+use Rattle.std.specs.Prelude.{Ok}
 use Rattle.lists.specs.Numbers.{Elements}
-use Rattle.contents.specs.declared.FileAnswer.TheVariants.{Done}
 use Rattle.contents.specs.Answers.{file_answer}
 use Rattle.contents.specs.Contents.{count, entry_of, body_start, contents_tests}
 use Rattle.bodies.proofs.Blocks.{Block, a_block, take-elements, drop-elements}
@@ -21,8 +21,8 @@ use Rattle.writer.specs.Reasons.{Blocks}
 use Rattle.writer.specs.Writer.{block_count, block_at}
 
 -- What holds already of a file that is right up to its run indices,
-module _ (l : List ℕ) (runs : file_answer (runs_tests l) ≡ Done) where
-  runs-right : file_answer (contents_tests l (length l)) ≡ Done
+module _ (l : List ℕ) (runs : file_answer (runs_tests l) ≡ Ok tt) where
+  runs-right : file_answer (contents_tests l (length l)) ≡ Ok tt
   runs-right = contents-right l runs
 
   pub runs-few : count l ≤ 256
@@ -41,9 +41,9 @@ module _ (l : List ℕ) (runs : file_answer (runs_tests l) ≡ Done) where
     runs_laid {from} {block} output long start left = left ∙ from_block l runs-right i h from start output long (runs-good l runs i h)
 
 -- and what holds of one that is accepted.
-module _ (l : List ℕ) (done : file_answer (file_tests l) ≡ Done) where
+module _ (l : List ℕ) (done : file_answer (file_tests l) ≡ Ok tt) where
   -- Its contents are right,
-  pub right : file_answer (contents_tests l (length l)) ≡ Done
+  pub right : file_answer (contents_tests l (length l)) ≡ Ok tt
   right = contents-right l (file-runs l done)
 
   -- it has at most 256 blocks,

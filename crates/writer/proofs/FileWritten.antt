@@ -9,6 +9,7 @@ use Prim.Native.Nat.{ℕ, ◌+◌, ◌*◌, ◌%◌, ◌≤◌, ◌<◌}
 use native.Mathlib.Decide.{dec_le, ℕ_discrete}
 use native.Mathlib.Omega.{arith}
 use lib.ListN.{length, get_or, take}
+use Rattle.std.specs.Prelude.{Ok, Err}
 use Rattle.lists.specs.Numbers.{minus, Elements}
 use Rattle.lists.specs.Parts.{cut, joined}
 use Rattle.lists.specs.Tab.{tab, tab_from}
@@ -21,9 +22,8 @@ use Rattle.places.specs.Places.{place, lane, row, order}
 use Rattle.places.specs.Sizes.{t64, lanes}
 use Rattle.little.specs.Little.{bytes_of, all_bytes}
 use Rattle.contents.specs.declared.Entry.{Entry}
-use Rattle.contents.specs.declared.FileAnswer.{FileAnswer}
-use Rattle.contents.specs.declared.FileAnswer.TheVariants.{Done, Block, Beyond, Room}
-use Rattle.contents.specs.Answers.{file_answer, left}
+use Rattle.contents.specs.declared.FileRefusal.TheVariants.{Block, Beyond, Room}
+use Rattle.contents.specs.Answers.{answer_of, FileAnswer, file_answer, left}
 use Rattle.contents.specs.Bytes.{head_bytes, first_bytes, range_bytes, entry_bytes}
 use Rattle.contents.specs.Contents.{count, entry_of, range_of}
 use Rattle.bodies.specs.Bodies.{block_of, words_from}
@@ -37,7 +37,7 @@ use Rattle.candidates.proofs.Choice.{chosen_shortest}
 use Rattle.candidates.proofs.Least.{no_narrower}
 use Rattle.files.specs.Files.{block_in, row_at, rows_of, file_tests, block_out_tests, block_out_leaves}
 use Rattle.files.specs.Reasons.{Reason, block_there, no_block, row_there, no_row}
-use Rattle.files.specs.Rows.{row_of, value_of, answer_of as row_answer}
+use Rattle.files.specs.Rows.{row_of, value_of}
 use Rattle.files.proofs.Exactly.{file_exactly, block_exactly, row_exactly}
 use Rattle.files.proofs.Rows.{row-place, row_answers, row_values}
 use Rattle.writer.specs.Reasons.{Blocks, WriteReason, no_blocks, short_output, room_there}
@@ -80,12 +80,12 @@ module _ (values output : List ℕ) where
   reason : (a : FileAnswer) × WriteReason values output a
   reason =
       elim (ℕ_discrete (length values % 1024) 0) [
-        | no other ↦ (Block, no_blocks (λ b. other (remainder_none values b)))
+        | no other ↦ (Err Block, no_blocks (λ b. other (remainder_none values b)))
         | yes whole ↦ elim (dec_le (length values) 262144) [
-          | no many ↦ (Block, no_blocks (λ b. many (numbers-few values b)))
+          | no many ↦ (Err Block, no_blocks (λ b. many (numbers-few values b)))
           | yes few ↦ elim (dec_le (length (file_of values)) (length output)) [
-            | yes room ↦ (Done, room_there (whole_blocks_are values whole few) room)
-            | no short ↦ (Room, short_output (whole_blocks_are values whole few) (omega arith))
+            | yes room ↦ (Ok tt, room_there (whole_blocks_are values whole few) room)
+            | no short ↦ (Err Room, short_output (whole_blocks_are values whole few) (omega arith))
           ]
         ]
       ]
@@ -99,19 +99,19 @@ module _ (values output : List ℕ) where
   unfolding written_of file_leaves
   write-outcome = outcome (file_answer (write_tests values output)) (file_of values) output
 
-  module _ (done : file_answer (write_tests values output) ≡ Done) where
+  module _ (done : file_answer (write_tests values output) ≡ Ok tt) where
     front : take (length (file_of values)) (file_leaves values output) ≡ file_of values
     front = write-outcome.front done
 
     write_blocks : Blocks values
-    write_blocks = right ((write_exactly Done).0 done)
+    write_blocks = right ((write_exactly (Ok tt)).0 done)
       where
-        right : WriteReason values output Done → Blocks values
+        right : WriteReason values output (Ok tt) → Blocks values
         right (room_there b room) = b
 
     -- The reader accepts it, and its rows are the numbers.
     pub write-reads : Elements t64 values
-        → (file_answer (file_tests (take (length (file_of values)) (file_leaves values output))) ≡ Done)
+        → (file_answer (file_tests (take (length (file_of values)) (file_leaves values output))) ≡ Ok tt)
         × (rows_of (take (length (file_of values)) (file_leaves values output)) ≡ values)
     write-reads fits =
         let b = write_blocks in
@@ -131,16 +131,16 @@ module _ (values output : List ℕ) where
           let b = write_blocks in
           ap count laid_is ∙ count-is values b.n b.whole b.few fits ∙ omega (arith, b.whole)
 
-      laid_right : Reason laid Done
-      laid_right = (file_exactly laid Done).0 (ap (λ l. file_answer (file_tests l)) (laid_is ∙ sym front) ∙ (write-reads fits).0)
+      laid_right : Reason laid (Ok tt)
+      laid_right = (file_exactly laid (Ok tt)).0 (ap (λ l. file_answer (file_tests l)) (laid_is ∙ sym front) ∙ (write-reads fits).0)
 
       -- One block out is done, and leaves the numbers of the block,
       pub write_block_out : (i : ℕ) → i < block_count values → (room : List ℕ) → length room ≡ 1024
-          → (file_answer (block_out_tests (laid_down values output) i room) ≡ Done) × (block_out_leaves (laid_down values output) i room ≡ block_at values i)
+          → (file_answer (block_out_tests (laid_down values output) i room) ≡ Ok tt) × (block_out_leaves (laid_down values output) i room ≡ block_at values i)
       unfolding laid block_out_leaves
       write_block_out i h room long =
           let b = write_blocks in
-          let done = (block_exactly laid i room Done).1 (block_there long laid_right (omega (arith, laid_count))) in (
+          let done = (block_exactly laid i room (Ok tt)).1 (block_there long laid_right (omega (arith, laid_count))) in (
             done,
             ap (λ a. left a (block_in laid i) room) done
                 ∙ ap (λ l. block_in l i) laid_is
@@ -149,19 +149,19 @@ module _ (values output : List ℕ) where
 
       -- or, past the last block, is refused with 12 and leaves its output.
       pub write-no_block : (i : ℕ) → block_count values ≤ i → (room : List ℕ) → length room ≡ 1024
-          → (file_answer (block_out_tests (laid_down values output) i room) ≡ Beyond) × (block_out_leaves (laid_down values output) i room ≡ room)
+          → (file_answer (block_out_tests (laid_down values output) i room) ≡ Err Beyond) × (block_out_leaves (laid_down values output) i room ≡ room)
       unfolding laid block_out_leaves
       write-no_block i h room long =
-          let beyond = (block_exactly laid i room Beyond).1 (no_block long laid_right (omega (arith, laid_count))) in
+          let beyond = (block_exactly laid i room (Err Beyond)).1 (no_block long laid_right (omega (arith, laid_count))) in
           (beyond, ap (λ a. left a (block_in laid i) room) beyond)
 
       -- The lookup of a row is done, and gives the number that stands there,
       pub write-row-at : (p : ℕ) → p < length values
-          → (row_answer (row_of (laid_down values output) p) ≡ Done) × (value_of (row_of (laid_down values output) p) ≡ get_or values p 0)
+          → (answer_of (row_of (laid_down values output) p) ≡ Ok tt) × (value_of (row_of (laid_down values output) p) ≡ get_or values p 0)
       unfolding laid row_at
       write-row-at p h =
           let there : p < 1024 * count laid = omega (arith, laid_count, write_blocks.whole) in
-          let done = (row_exactly laid p Done).1 (row_there laid_right there) in (
+          let done = (row_exactly laid p (Ok tt)).1 (row_there laid_right there) in (
             row_answers laid p ∙ done,
             row_values laid p
                 ∙ ap (λ a. left a (row_at laid p) 0) done
@@ -171,12 +171,12 @@ module _ (values output : List ℕ) where
           )
 
       -- or, past the last row, is refused with 12.
-      pub write-no-row : (p : ℕ) → length values ≤ p → row_answer (row_of (laid_down values output) p) ≡ Beyond
+      pub write-no-row : (p : ℕ) → length values ≤ p → answer_of (row_of (laid_down values output) p) ≡ Err Beyond
       unfolding laid
-      write-no-row p h = row_answers laid p ∙ (row_exactly laid p Beyond).1 (no_row laid_right (omega (arith, laid_count, write_blocks.whole)))
+      write-no-row p h = row_answers laid p ∙ (row_exactly laid p (Err Beyond)).1 (no_row laid_right (omega (arith, laid_count, write_blocks.whole)))
 
 -- The numbers alone decide the bytes: two calls on the same numbers that are done leave the same file.
-pub write_same : (values output output' : List ℕ) → file_answer (write_tests values output) ≡ Done → file_answer (write_tests values output') ≡ Done
+pub write_same : (values output output' : List ℕ) → file_answer (write_tests values output) ≡ Ok tt → file_answer (write_tests values output') ≡ Ok tt
     → take (length (file_of values)) (file_leaves values output) ≡ take (length (file_of values)) (file_leaves values output')
 write_same values output output' done done' = (write-outcome values output).front done ∙ sym ((write-outcome values output').front done')
 

@@ -15,9 +15,8 @@ use Rattle.lists.specs.Tab.{over}
 use Rattle.lists.proofs.Overs.{length_over}
 use Rattle.places.specs.Sizes.{t64}
 use Rattle.contents.specs.declared.Entry.{Entry}
-use Rattle.contents.specs.declared.FileAnswer.{FileAnswer}
 use Rattle.contents.specs.declared.Range.{Range}
-use Rattle.contents.specs.Answers.{file_answer}
+use Rattle.contents.specs.Answers.{FileAnswer, file_answer}
 use Rattle.contents.specs.Bytes.{entry_leaves}
 use Rattle.contents.specs.Contents.{entry_size, contents_size}
 use Rattle.contents.proofs.Bytes.{entry-fits}

@@ -17,8 +17,8 @@ use Rattle.contents.specs.Bytes.{head_bytes, entry_bytes}
 use Rattle.contents.specs.Contents.{entry_size, contents_size}
 use Rattle.contents.proofs.Bytes.{length-head, length-entry}
 use Rattle.bodies.specs.Ranges.{true_range}
-use Rattle.candidates.specs.declared.Laid.TheVariants.{As}
-use Rattle.candidates.specs.Calls.{laid_of, lay_leaves}
+use Rattle.std.specs.Prelude.{Ok}
+use Rattle.candidates.specs.Calls.{said_of, laid_of, lay_leaves}
 use Rattle.candidates.specs.Candidates.{chosen, body_for}
 use Rattle.candidates.proofs.Calls.{laid_there}
 use Rattle.candidates.proofs.Choice.{body_sized, chosen_short}
@@ -169,7 +169,7 @@ module _ (values : List ℕ) where
 
 -- A block is laid down through the tail of the output.
 module _ (block : List ℕ) (long : length block ≡ 1024) (at : ℕ) (old : List ℕ) (room : at + (chosen block).entry.length ≤ length old) where
-  pub one_laid : (laid_of block (mid_of at (length old - at) old) ≡ As (chosen block).entry (true_range block))
+  pub one_laid : (laid_of block (mid_of at (length old - at) old) ≡ Ok (said_of block))
       × (put_mid at (length old - at) old (lay_leaves block (mid_of at (length old - at) old)) ≡ over at (body_for block) old)
   one_laid =
       let tail : mid_of at (length old - at) old ≡ drop at old = take_all (length old - at) (drop at old) (omega (arith, length-drop at old)) in

@@ -4,21 +4,17 @@
 use mathlib.Core.List.{List}
 use mathlib.Core.Path.{◌≡◌, refl, ap, ◌∙◌}
 use Prim.Native.Nat.{ℕ}
-use borrow.Author.Tests.{ne_eqb}
 use lib.ListN.{length, take, drop}
-use Rattle.lists.specs.Pick.{pick}
+use Rattle.std.specs.Prelude.{Result, Ok, Err}
 use Rattle.lists.specs.Tab.{over}
 use Rattle.lists.proofs.Overs.{over-front, over-rest}
-use Rattle.contents.specs.declared.FileAnswer.{FileAnswer}
-use Rattle.contents.specs.declared.FileAnswer.TheVariants.{Done}
-use Rattle.contents.specs.Answers.{number_of}
+use Rattle.contents.specs.declared.FileRefusal.{FileRefusal}
+use Rattle.contents.specs.Answers.{FileAnswer, number_of, answer_of}
 use Rattle.contents.proofs.Answers.{left-refused, says_answer}
-use Rattle.writer.specs.declared.Written.{Written}
-use Rattle.writer.specs.declared.Written.TheVariants.{Length, Refused}
-use Rattle.writer.specs.Writer.{given_by, left_by, answer_of, length_of}
+use Rattle.writer.specs.Writer.{given_by, left_by, length_of}
 
 -- So it is with a call that has this answer, was to lay down this file, gave this and left this.
-pub record Outcome (a : FileAnswer) (file output : List ℕ) (given : Written) (after : List ℕ) : Type 0 where
+pub record Outcome (a : FileAnswer) (file output : List ℕ) (given : Result ℕ FileRefusal) (after : List ℕ) : Type 0 where
   -- What it gives back says the answer,
   pub answers : answer_of given ≡ a
   -- and a length of 0 where it is refused.
@@ -26,21 +22,29 @@ pub record Outcome (a : FileAnswer) (file output : List ℕ) (given : Written) (
   -- A refused call leaves the output as it was.
   pub refused : (number_of a ≡ 0 → ⊥) → after ≡ output
   -- A call that is done gives the file's length,
-  pub whole : a ≡ Done → length_of given ≡ length file
+  pub whole : a ≡ Ok tt → length_of given ≡ length file
   -- leaves the file at the front,
-  pub front : a ≡ Done → take (length file) after ≡ file
+  pub front : a ≡ Ok tt → take (length file) after ≡ file
   -- and behind it the bytes that were there.
-  pub behind : a ≡ Done → drop (length file) after ≡ drop (length file) output
+  pub behind : a ≡ Ok tt → drop (length file) after ≡ drop (length file) output
 
 module _ (a : FileAnswer) (file : List ℕ) where
-  -- After a refusal the refusal is given.
-  pub given-refused : (number_of a ≡ 0 → ⊥) → given_by a file ≡ Refused a
-  given-refused bad = ap (λ b. pick b (Length (length file)) (Refused a)) (ne_eqb (number_of a) 0 bad)
+  -- After a refusal the refusal is given,
+  pub given-refused : {r : FileRefusal} → a ≡ Err r → given_by a file ≡ Err r
+  given-refused e = ap (λ a. given_by a file) e
+
+  -- so there is no length.
+  no-length : (number_of a ≡ 0 → ⊥) → length_of (given_by a file) ≡ 0
+  no-length bad = go a bad
+    where
+      go : (a : FileAnswer) → (number_of a ≡ 0 → ⊥) → length_of (given_by a file) ≡ 0
+      go (Ok _) bad = absurd (bad refl)
+      go (Err r) bad = refl
 
   pub outcome : (output : List ℕ) → Outcome a file output (given_by a file) (left_by a file output)
   outcome output = record {
-    answers = says_answer answer_of (Length (length file)) Refused refl (λ _. refl) a;
-    no_length = λ bad. ap length_of (given-refused bad);
+    answers = says_answer a (length file);
+    no_length = no-length;
     refused = left-refused a (over 0 file output) output;
     whole = ap (λ a. length_of (given_by a file));
     front = λ done. ap (λ a. take (length file) (left_by a file output)) done ∙ over-front file output;

@@ -10,6 +10,7 @@ use native.Mathlib.Omega.{arith}
 use lib.ListN.{length, get_or, take, drop, length-append}
 use lib.Seq.{take_at, drop_at}
 use borrow.Author.Tests.{eq-eqb, le-leb}
+use Rattle.std.specs.Prelude.{Ok}
 use Rattle.lists.specs.Numbers.{Elements}
 use Rattle.lists.specs.Pick.{pick, both}
 use Rattle.lists.specs.Tab.{tab}
@@ -21,7 +22,6 @@ use Rattle.lists.proofs.Search.{first_only}
 use Rattle.lists.proofs.Highs.{highest-below}
 use Rattle.lists.proofs.Lows.{lowest-element}
 use Rattle.places.specs.Sizes.{t64}
-use Rattle.contents.specs.declared.FileAnswer.TheVariants.{Done}
 use Rattle.contents.specs.Answers.{file_answer}
 use Rattle.contents.specs.Bytes.{head_bytes}
 use Rattle.contents.specs.Contents.{edition, count, contents_size, entry_at, entry_of, range_at_lem, any_range, range_of, is_laid_out, is_taken_in, is_ordered, is_right, bodies_size, body_start, contents_tests}
@@ -202,7 +202,7 @@ module _ (values : List ℕ) (n : ℕ) (whole : length values ≡ n * 1024) (few
   unfolding bad_range
   ranges_passed = none_first (count file) (has_true_range file) range-right
 
-  pub file-accepted : file_answer (file_tests (file_of values)) ≡ Done
+  pub file-accepted : file_answer (file_tests (file_of values)) ≡ Ok tt
   file-accepted =
       done-both (contents_tests file (length file)) _ refl (accepts file (length file) contents-right)
       (passed _ _ (eq-eqb (bad_runs file) (count file) runs-passed) ∙ passed _ _ (eq-eqb (bad_range file) (count file) ranges_passed) ∙ none_left)

@@ -12,58 +12,29 @@ ghost use Rattle.contents.specs.Bytes.{entry_bytes};
 ghost use Rattle.contents.specs.Contents.{contents_size};
 ghost use Rattle.bodies.specs.Ranges.{true_range};
 ghost use Rattle.writer.specs.InnerKept.{KeptAt, Kept, Rooms};
-ghost use Rattle.writer.specs.Writer.{answer_of, length_of, written_of, file_leaves, file_of, block_count, block_at, entries_for, bodies_for};
+ghost use Rattle.writer.specs.Writer.{written_of, file_leaves, file_of, block_count, block_at, entries_for, bodies_for};
 
 use candidates::{entry_with, lay_by, measure};
-use contents::{FileAnswer, Range, put_entry, put_head};
+use contents::{FileRefusal, Range, put_entry, put_head};
 
-// The length of the file that was written, or the refusal.
-#[derive(Clone, Copy)]
-pub enum Written {
-    Length(usize),
-    Refused(FileAnswer),
-}
-
-impl Written {
-    // The answer in the terms of the other calls.
-    pub fn answer(self) -> FileAnswer
-        ensures { result ≡ answer_of self }
-    {
-        match self {
-            Written::Length(_) => FileAnswer::Done,
-            Written::Refused(a) => a,
-        }
-    }
-
-    // The length; 0 after a refusal.
-    pub fn length(self) -> usize
-        ensures { result ≡ length_of self }
-    {
-        match self {
-            Written::Length(n) => n,
-            Written::Refused(_) => 0,
-        }
-    }
-}
-
-// Writes the file of the numbers at the front of the output.
-pub fn write(values: &[u64], output: &mut [u8]) -> Written
+// Writes the file of the numbers at the front of the output, and gives its length.
+pub fn write(values: &[u64], output: &mut [u8]) -> Result<usize, FileRefusal>
     ensures value { result ≡ written_of values.now output.old }
     ensures output_after { output.new ≡ file_leaves values.now output.old }
 {
     if values.len() % 1024 != 0 {
-        return Written::Refused(FileAnswer::Block);
+        return Err(FileRefusal::Block);
     }
     if 262144 < values.len() {
-        return Written::Refused(FileAnswer::Block);
+        return Err(FileRefusal::Block);
     }
     let mut kept = [0u64; 768];
     let size = measure_blocks(values, &mut kept);
     if output.len() < size {
-        return Written::Refused(FileAnswer::Room);
+        return Err(FileRefusal::Room);
     }
     lay_file(values, &kept, output);
-    Written::Length(size)
+    Ok(size)
 }
 
 // Measures all blocks, keeps of each what it is laid down by, and gives how many bytes the file has.
@@ -75,8 +46,7 @@ fn measure_blocks(values: &[u64], kept: &mut [u64]) -> usize
 {
     let n = values.len() / 1024;
     let mut size = 4 + n * 32;
-    let mut i = 0;
-    while i < n {
+    for i in 0..n {
         let from = i * 1024;
         let to = from + 1024;
         let m = measure(&values[from..to]);
@@ -84,7 +54,6 @@ fn measure_blocks(values: &[u64], kept: &mut [u64]) -> usize
         keep(range, m.steps, i, kept);
         let e = m.entry;
         size += e.length as usize;
-        i += 1;
     }
     size
 }
@@ -128,8 +97,7 @@ fn lay_blocks(values: &[u64], kept: &[u64], output: &mut [u8])
     let mut frame = [0u64; 1024];
     let mut rest = [0u64; 1040];
     let mut at = 4 + n * 32;
-    let mut i = 0;
-    while i < n {
+    for i in 0..n {
         let from = i * 1024;
         let to = from + 1024;
         at += lay_one(
@@ -142,7 +110,6 @@ fn lay_blocks(values: &[u64], kept: &[u64], output: &mut [u8])
             &mut rest,
             output,
         );
-        i += 1;
     }
 }
 
@@ -175,7 +142,7 @@ fn lay_one(
         largest: kept[k + 1],
     };
     let steps = kept[k + 2] as usize;
-    lay_by(range, steps, block, plain, frame, rest, &mut output[at..]);
+    let _ = lay_by(range, steps, block, plain, frame, rest, &mut output[at..]);
     let e = entry_with(range, steps);
     put_entry(e, range, 4 + i * 32, output);
     e.length as usize

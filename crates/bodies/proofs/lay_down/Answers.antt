@@ -5,8 +5,9 @@ use mathlib.Core.Path.{sym, ap, ap₂, ◌∙◌}
 use Prim.Native.Nat.{◌<◌}
 use native.Mathlib.Omega.{arith}
 use borrow.Author.Rules.{rules}
+use Rattle.std.specs.Prelude.{Err}
 use Rattle.lists.specs.Pick.{pick}
-use Rattle.contents.specs.declared.FileAnswer.TheVariants.{Runs}
+use Rattle.contents.specs.declared.FileRefusal.TheVariants.{Runs}
 use Rattle.contents.specs.Answers.{file_answer}
 use Rattle.contents.proofs.Laid.{laid_differences, laid_runs, laid_kind}
 use Rattle.bodies.proofs.Blocks.{block_raised}
@@ -45,7 +46,7 @@ returns-in-3 c =
     let e = args.e in
     let body = args.body.now in
     let runs = sym (runs-runs e body c.in-3.is) in
-    let block = sym (block_runs e body c.in-3.is) in record { value = c.runs_out.ensures.value ∙ ap (λ b. file_answer ((b, Runs 0) ∷ [])) runs; output_after = c.runs_out.ensures.output_after ∙ ap₂ (λ b l. pick b l args.output.now) runs block }
+    let block = sym (block_runs e body c.in-3.is) in record { value = c.runs_out.ensures.value ∙ ap (λ b. file_answer ((b, Err (Runs 0)) ∷ [])) runs; output_after = c.runs_out.ensures.output_after ∙ ap₂ (λ b l. pick b l args.output.now) runs block }
 
 pub returns-in_default : goal.returns-in_default
 returns-in_default c =

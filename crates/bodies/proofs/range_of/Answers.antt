@@ -6,7 +6,6 @@ use mathlib.Core.Path.{◌≡◌, refl, ap, ◌∙◌}
 use Prim.Native.Nat.{ℕ, ◌+◌, ◌*◌, ◌/◌, ◌<◌, min, max}
 use native.Mathlib.Omega.{arith}
 use lib.ListN.{length, get_or}
-use borrow.Author.Rules.{rules}
 use Rattle.lists.proofs.Highs.{Passed as Highs, passed_none as highs-none, passed-next as highs-next, passed_all as highs-all}
 use Rattle.lists.proofs.Lows.{Passed as Lows, passed_none as lows-none, passed-next as lows-next, passed_all as lows-all}
 use Rattle.bodies.proofs.range_of.Goals as goal
@@ -24,16 +23,15 @@ module _ (xs : List ℕ) (i : ℕ) (room : i * 2 + 1 < length xs) where
       rw on at (highs-next next (highs-next (max high (get_or xs (i * 2) 0)) p (omega arith) refl) room (omega arith))
 
 pub loop-i-init : goal.loop-i-init
-loop-i-init c = (search rules, lows-none _, highs-none _)
+loop-i-init c = (lows-none _, highs-none _)
 
 pub loop-i-preserved : goal.loop-i-preserved
 loop-i-preserved c =
     let values = c.args.values.now in
     let i = c.loop-i.i in
     let room : i * 2 + 1 < length values = omega arith in (
-      omega arith,
-      lows-pair values i room c.loop-i.invariant.1 (c.lower-low.ensures ∙ ap (min _) c.lower.ensures),
-      highs-pair values i room c.loop-i.invariant.2 (c.higher-high.ensures ∙ ap (max _) c.higher.ensures),
+      lows-pair values i room c.loop-i.invariant.0 (c.lower-low.ensures ∙ ap (min _) c.lower.ensures),
+      highs-pair values i room c.loop-i.invariant.1 (c.higher-high.ensures ∙ ap (max _) c.higher.ensures),
     )
 
 pub returns-then-n-values : goal.returns-then-n-values
@@ -41,10 +39,10 @@ returns-then-n-values c =
     let values = c.args.values.now in
     let all : c.loop-i.i ≡ length values / 2 = omega arith in
     let last : length values / 2 * 2 < length values = omega arith in (
-      lows-all (lows-next _ (rw all at c.loop-i.invariant.1) last c.lower-low-then-n-values.ensures) (omega arith),
-      highs-all (highs-next _ (rw all at c.loop-i.invariant.2) last c.higher-high-then-n-values.ensures) (omega arith),
+      lows-all (lows-next _ (rw all at c.loop-i.invariant.0) last c.lower-low-then-n-values.ensures) (omega arith),
+      highs-all (highs-next _ (rw all at c.loop-i.invariant.1) last c.higher-high-then-n-values.ensures) (omega arith),
     )
 
 pub returns-else-n-values : goal.returns-else-n-values
 returns-else-n-values c =
-    (lows-all c.loop-i.invariant.1 (omega arith), highs-all c.loop-i.invariant.2 (omega arith))
+    (lows-all c.loop-i.invariant.0 (omega arith), highs-all c.loop-i.invariant.1 (omega arith))

@@ -5,9 +5,10 @@ use mathlib.Core.Path.{sym, ap, ◌∙◌}
 use Prim.Native.Nat.{◌+◌, ◌*◌}
 use native.Mathlib.Omega.{arith}
 use borrow.Author.Rules.{rules}
+use Rattle.std.specs.Prelude.{Err}
 use Rattle.lists.specs.Pick.{pick}
 use Rattle.runs.specs.Runs.{decode_of}
-use Rattle.contents.specs.declared.FileAnswer.TheVariants.{Runs}
+use Rattle.contents.specs.declared.FileRefusal.TheVariants.{Runs}
 use Rattle.contents.specs.Answers.{file_answer}
 use Rattle.bodies.specs.Bodies.{words_from, run_indices, indexed}
 use Rattle.bodies.proofs.Bodies.{lent}
@@ -24,7 +25,7 @@ pub returns : goal.returns
 returns c =
     let body = c.args.body.now in
     let long = lent 64 c.args.n c.requires.n_bound in record {
-      value = c.runs_through.ensures.value ∙ ap (λ n. file_answer ((indexed n body, Runs 0) ∷ [])) long;
+      value = c.runs_through.ensures.value ∙ ap (λ n. file_answer ((indexed n body, Err (Runs 0)) ∷ [])) long;
       output_after = c.runs_through.ensures.output_after
           ∙ ap (λ n. pick (indexed n body) (decode_of (words_from body 2048 n) (run_indices body)) c.args.output.now) long;
     }

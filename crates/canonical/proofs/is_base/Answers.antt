@@ -13,7 +13,7 @@ use Rattle.canonical.proofs.is_base.Goals as goal
 use Rattle.canonical.proofs.is_base.Goals.{After-word}
 
 pub loop-l-init : goal.loop-l-init
-loop-l-init c = (omega arith, λ k h. absurd (omega arith))
+loop-l-init c = λ k h. absurd (omega arith)
 
 -- the word that was read
 read : (c : After-word) → c.word.result ≡ little c.args.body.now (c.loop-l.l * 8) 8
@@ -29,18 +29,16 @@ returns-then-word-block c =
 pub loop-l-preserved : goal.loop-l-preserved
 loop-l-preserved c =
     let args = c.args in
-    let l = c.loop-l.l in (
-      omega arith,
-      λ k h.
-          elim (dec_lt k l) [
-            | yes first ↦ c.loop-l.invariant.1 k first
-            | no last ↦
-                let here : k ≡ l = omega arith in
-                ap (λ k. little args.body.now (k * 8) 8) here ∙ sym (read (goal.at.loop-l-preserved c).After-word) ∙ c.if-word-block.false ∙ sym (ap (λ k. get_or args.block.now k 0) here)
-          ],
-    )
+    let l = c.loop-l.l in
+    λ k h.
+    elim (dec_lt k l) [
+      | yes first ↦ c.loop-l.invariant k first
+      | no last ↦
+          let here : k ≡ l = omega arith in
+          ap (λ k. little args.body.now (k * 8) 8) here ∙ sym (read (goal.at.loop-l-preserved c).After-word) ∙ c.if-word-block.false ∙ sym (ap (λ k. get_or args.block.now k 0) here)
+    ]
 
 pub returns : goal.returns
 returns c =
     let args = c.args in
-    (λ _. base-words args.body.now args.block.now (λ k h. c.loop-l.invariant.1 k (omega arith)), λ _. refl)
+    (λ _. base-words args.body.now args.block.now (λ k h. c.loop-l.invariant k (omega arith)), λ _. refl)

@@ -13,7 +13,7 @@ use Rattle.contents.proofs.bodies_of.Goals.{After-entry_at-e}
 
 pub loop-i-init : goal.loop-i-init
 unfolding bodies_size
-loop-i-init c = (search rules, search rules, search rules, sym (size_none c.args.edition))
+loop-i-init c = (search rules, search rules, sym (size_none c.args.edition))
 
 pub entry_at-e-requires : goal.entry_at-e-requires
 entry_at-e-requires c =
@@ -24,7 +24,7 @@ entry_at-e-requires c =
 next : (c : After-entry_at-e) → c.loop-i.at + c.entry_size-size.result
     ≡ contents_size c.args.edition (c.loop-i.i + 1)
 next c =
-    ap₂ ◌+◌ c.loop-i.invariant.3 c.entry_size-size.ensures ∙ sym (size-next c.args.edition c.loop-i.i)
+    ap₂ ◌+◌ c.loop-i.invariant.2 c.entry_size-size.ensures ∙ sym (size-next c.args.edition c.loop-i.i)
 
 pub overflow_add-at : goal.overflow_add-at
 overflow_add-at c =
@@ -36,14 +36,13 @@ unfolding entry_of
 entry-is c =
     let l = c.args.front.now in
     c.entry_at-e.ensures
-    ∙ ap (entry_at l) (c.loop-i.invariant.3 ∙ ap (λ e. contents_size e c.loop-i.i) c.requires.edition_value)
+    ∙ ap (entry_at l) (c.loop-i.invariant.2 ∙ ap (λ e. contents_size e c.loop-i.i) c.requires.edition_value)
 
 pub loop-i-preserved : goal.loop-i-preserved
 unfolding bodies_size
 loop-i-preserved c =
     let loop = c.loop-i in (
-      omega arith,
-      ap₂ ◌+◌ loop.invariant.1 (ap (λ e. e.length) (entry-is (goal.at.loop-i-preserved c).After-entry_at-e)) ∙ sym (ap (bodies_size _) (add-one loop.i)),
+      ap₂ ◌+◌ loop.invariant.0 (ap (λ e. e.length) (entry-is (goal.at.loop-i-preserved c).After-entry_at-e)) ∙ sym (ap (bodies_size _) (add-one loop.i)),
       omega arith,
       next (goal.at.loop-i-preserved c).After-entry_at-e,
     )
@@ -51,4 +50,4 @@ loop-i-preserved c =
 pub returns : goal.returns
 returns c =
     let e : c.loop-i.i ≡ c.args.n = omega arith in
-    (c.loop-i.invariant.1 ∙ rw e, rw e at c.loop-i.invariant.2)
+    (c.loop-i.invariant.0 ∙ rw e, rw e at c.loop-i.invariant.1)

@@ -3,9 +3,10 @@
 use mathlib.Core.Path.{◌≡◌, sym, ap, ap₂, ◌∙◌}
 use Prim.Native.Nat.{◌+◌, ◌≤◌}
 use native.Mathlib.Omega.{arith}
+use Rattle.std.specs.Prelude.{Err}
 use Rattle.lists.specs.Search.{first_bad}
 use Rattle.lists.proofs.Search.{first_le}
-use Rattle.contents.specs.declared.FileAnswer.TheVariants.{BadEntry}
+use Rattle.contents.specs.declared.FileRefusal.TheVariants.{BadEntry}
 use Rattle.contents.specs.Contents.{count, contents_size, is_right, bad_entry, bodies_size, body_start}
 use Rattle.contents.proofs.Checks.{bad_entries, short_bodies, left_over, entries-done}
 use Rattle.contents.proofs.Sizes.{size-most}
@@ -47,7 +48,7 @@ none c =
 pub returns-then-lowest-n : goal.returns-then-lowest-n
 returns-then-lowest-n c =
     let l = c.args.front.now in
-    ap BadEntry (lowest (goal.at.returns-then-lowest-n c).After-bad_entry-lowest) ∙ sym (bad_entries l _ (omega (arith, lowest (goal.at.returns-then-lowest-n c).After-bad_entry-lowest, c.requires.n_value, c.if-lowest-n.true)))
+    ap (λ p. Err (BadEntry p)) (lowest (goal.at.returns-then-lowest-n c).After-bad_entry-lowest) ∙ sym (bad_entries l _ (omega (arith, lowest (goal.at.returns-then-lowest-n c).After-bad_entry-lowest, c.requires.n_value, c.if-lowest-n.true)))
 
 pub contents_size-requires : goal.contents_size-requires
 contents_size-requires c =

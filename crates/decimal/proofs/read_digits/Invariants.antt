@@ -2,14 +2,11 @@
 -- all.
 -- Assumes nothing.
 use mathlib.Core.Path.{◌≡◌}
-use Prim.Native.Nat.{◌-◌, ◌≤◌, ◌<◌}
-use lib.ListN.{length, drop}
+use Prim.Native.Nat.{◌<◌}
+use lib.ListN.{drop}
 use Rattle.decimal.specs.Decimal.{digits_of, value_from, value_of}
 use Rattle.decimal.proofs.read_digits.Given as goal
 
 abbrev pub invariant-loop-i : goal.invariant-loop-i
 invariant-loop-i l =
-    (l.i ≤ length l.text) × (l.v < 18446744073709551616) × (value_from l.v (drop l.i (digits_of l.text)) ≡ value_of (digits_of l.text))
-
-abbrev pub decreases-loop-i : goal.decreases-loop-i
-decreases-loop-i l = length l.text - l.i
+    (l.v < 18446744073709551616) × (value_from l.v (drop l.i (digits_of l.text)) ≡ value_of (digits_of l.text))

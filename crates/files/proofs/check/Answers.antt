@@ -1,27 +1,21 @@
 -- `files::check` meets its contract: the tests up to the run indices first, and behind these the ranges.
 -- Assumes nothing.
-use Rattle.std.proofs.Common.{◌≡◌, sym, ap, ◌∙◌}
-use Rattle.contents.specs.declared.FileAnswer.TheVariants.{Done}
-use Rattle.contents.specs.Answers.{file_answer, number_of}
-use Rattle.contents.proofs.Answers.{number-done}
-use Rattle.files.specs.Files.{runs_tests}
+use Rattle.std.proofs.lemmas.Result.{err_from_is_err_and}
+use Rattle.std.proofs.Common.{sym, ap, ◌∙◌}
+use Rattle.contents.specs.Answers.{number_of}
+use Rattle.contents.proofs.Answers.{refusal_numbered}
 use Rattle.files.proofs.Ranges.{file-refused, file_ranges}
 use Rattle.files.proofs.check.Goals as goal
-use Rattle.files.proofs.check.Goals.{Else-number-ne0}
 
--- the tests up to the run indices are passed where the number is 0
-runs_done : (c : Else-number-ne0) → file_answer (runs_tests c.args.file.now) ≡ Done
-runs_done c = sym c.check_runs-answer.ensures ∙ number-done _ (sym c.number.ensures ∙ c.if-number-ne0.false)
-
-pub returns-then-number-ne0 : goal.returns-then-number-ne0
-returns-then-number-ne0 c =
+pub returns-in_err-check_runs : goal.returns-in_err-check_runs
+returns-in_err-check_runs c =
     let l = c.args.file.now in
-    c.check_runs-answer.ensures
-    ∙ sym (file-refused l (λ e. c.if-number-ne0.true (c.number.ensures ∙ ap number_of c.check_runs-answer.ensures ∙ e)))
+    let given = err_from_is_err_and c.from_residual.result c.from_residual.ensures.1 in
+    rw (given.1, given.2)
+    (c.in_err-check_runs.ensures ∙ sym (file-refused l (λ z. refusal_numbered _ (ap number_of c.in_err-check_runs.ensures ∙ z))))
 
 pub check_ranges-requires : goal.check_ranges-requires
-check_ranges-requires c = runs_done (goal.at.check_ranges-requires c).Else-number-ne0
+check_ranges-requires c = sym c.in_ok-check_runs.ensures
 
 pub returns : goal.returns
-returns c =
-    c.check_ranges.ensures ∙ sym (file_ranges c.args.file.now (runs_done (goal.at.returns c).Else-number-ne0))
+returns c = c.check_ranges.ensures ∙ sym (file_ranges c.args.file.now (sym c.in_ok-check_runs.ensures))

@@ -1,7 +1,7 @@
 -- `files::check_ranges` meets its contract: an edition that has no ranges passes, and in edition 2 the search decides.
 -- Assumes nothing.
+use Rattle.std.specs.Prelude.{Ok}
 use Rattle.std.proofs.Common.{◌≡◌, length, sym, ◌∙◌}
-use Rattle.contents.specs.declared.FileAnswer.TheVariants.{Done}
 use Rattle.contents.specs.Answers.{file_answer}
 use Rattle.contents.specs.Contents.{contents_tests}
 use Rattle.bodywise.proofs.Told.{count-read, edition-read}
@@ -10,7 +10,7 @@ use Rattle.files.proofs.check_ranges.Goals as goal
 use Rattle.files.proofs.check_ranges.Goals.{Start}
 
 -- the contents are right
-right : (c : Start) → file_answer (contents_tests c.args.file.now (length c.args.file.now)) ≡ Done
+right : (c : Start) → file_answer (contents_tests c.args.file.now (length c.args.file.now)) ≡ Ok tt
 right c = contents-right c.args.file.now c.requires
 
 pub returns-then-edition-ne2 : goal.returns-then-edition-ne2

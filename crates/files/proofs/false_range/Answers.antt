@@ -1,8 +1,8 @@
 -- `files::false_range` meets its contract: every block that the walk has passed has its true range.
 -- Assumes nothing.
+use Rattle.std.specs.Prelude.{Ok}
 use Rattle.std.proofs.Common.{◌≡◌, ◌+◌, ◌<◌, length, sym, refl, ◌∙◌, arith, rules}
 use Rattle.lists.proofs.Search.{first_only}
-use Rattle.contents.specs.declared.FileAnswer.TheVariants.{Done}
 use Rattle.contents.specs.Answers.{file_answer}
 use Rattle.contents.specs.Contents.{count, contents_tests}
 use Rattle.files.specs.Files.{has_true_range, bad_range}
@@ -14,7 +14,7 @@ use Rattle.files.proofs.false_range.Goals as goal
 use Rattle.files.proofs.false_range.Goals.{After-is_true_in, After-next-next, Start}
 
 -- the contents are right
-right : (c : Start) → file_answer (contents_tests c.args.file.now (length c.args.file.now)) ≡ Done
+right : (c : Start) → file_answer (contents_tests c.args.file.now (length c.args.file.now)) ≡ Ok tt
 right c = contents-right c.args.file.now c.requires.file_value
 
 -- what was asked of the body of the walk is asked of its block
@@ -24,12 +24,12 @@ tested-is c =
     let body = c.loop-body.body in
     let there : body.number < count l = omega (arith, c.loop-body.invariant.1) in
     c.is_true_in.ensures.value
-    ∙ true_in_is l (let it : file_answer (contents_tests c.args.file.now (length c.args.file.now)) ≡ Done = contents-right c.args.file.now c.requires.file_value in it) body.number there body.at c.loop-body.invariant.0.start c.loop-body.block c.loop-body.invariant.3 c.requires.file_value_2 (runs-good l c.requires.file_value body.number there)
+    ∙ true_in_is l (let it : file_answer (contents_tests c.args.file.now (length c.args.file.now)) ≡ Ok tt = contents-right c.args.file.now c.requires.file_value in it) body.number there body.at c.loop-body.invariant.0.start c.loop-body.block c.loop-body.invariant.3 c.requires.file_value_2 (runs-good l c.requires.file_value body.number there)
 
 -- one body further
 next-number : (c : After-next-next) → c.next-next.result.number ≡ c.loop-body.body.number + 1
 next-number c =
-    file-number c.args.file.now (let it : file_answer (contents_tests c.args.file.now (length c.args.file.now)) ≡ Done = contents-right c.args.file.now c.requires.file_value in it) (omega arith) c.loop-body.invariant.0 (omega (arith, c.loop-body.invariant.1)) c.next-next.ensures
+    file-number c.args.file.now (let it : file_answer (contents_tests c.args.file.now (length c.args.file.now)) ≡ Ok tt = contents-right c.args.file.now c.requires.file_value in it) (omega arith) c.loop-body.invariant.0 (omega (arith, c.loop-body.invariant.1)) c.next-next.ensures
 
 pub loop-body-init : goal.loop-body-init
 loop-body-init c =

@@ -4,7 +4,7 @@ use Rattle.std.proofs.Common.{◌+◌, ◌%◌, ◌^◌, sym, ap, ◌∙◌, ap�
 use Rattle.lists.specs.Numbers.{plus}
 use Rattle.bodies.proofs.Blocks.{packed_value}
 use Rattle.bodies.proofs.Bodies.{laid_plain}
-use Rattle.files.specs.declared.Row.TheVariants.{Counted}
+use Rattle.files.specs.Rows.{counted}
 use Rattle.files.proofs.packed_row.Goals as goal
 
 pub look_up-found-requires : goal.look_up-found-requires
@@ -16,7 +16,7 @@ pub returns : goal.returns
 unfolding plus
 returns c =
     let e = c.args.e in
-    ap₂ Counted
+    ap₂ counted
     (c.wrapping_add_u64.ensures.value
     ∙ ap (λ v. (v + e.reference) % 2 ^ 64) c.look_up-found.ensures.its_value
     ∙ sym (packed_value e c.args.body.now c.requires.e_value c.requires.kind_bound c.args.place c.requires.place_bound))

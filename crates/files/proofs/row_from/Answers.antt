@@ -1,22 +1,23 @@
 -- `files::row_from` meets its contract: each refusal by its test, and then the lookup in the body that is lent.
 -- Assumes nothing.
+use Rattle.std.specs.Prelude.{Result, Ok, Err}
 use Rattle.std.proofs.Common.{◌≡◌, ℕ, ◌+◌, ◌-◌, ◌%◌, ◌≤◌, true, leb, List, length, get_or, take, drop, sym, ap, ◌∙◌, arith, rules, leb-true}
 use Rattle.lists.specs.Pick.{pick}
 use Rattle.contents.specs.declared.Entry.{Entry}
-use Rattle.contents.specs.declared.FileAnswer.TheVariants.{Runs}
+use Rattle.contents.specs.declared.FileRefusal.{FileRefusal}
+use Rattle.contents.specs.declared.FileRefusal.TheVariants.{Runs}
 use Rattle.contents.specs.Contents.{is_laid_out, entry_or, has_right_entry}
 use Rattle.contents.proofs.Entries.{right_laid}
 use Rattle.bodies.specs.Bodies.{block_of, has_good_runs}
 use Rattle.files.specs.declared.Row.{Row}
-use Rattle.files.specs.declared.Row.TheVariants.{Refused}
 use Rattle.files.specs.Rows.{given}
 use Rattle.files.proofs.Places.{from_cut, from_wrong, from_lent, from_beyond, from_runs}
 use Rattle.files.proofs.row_from.Goals as goal
 use Rattle.files.proofs.row_from.Goals.{After-holds, Else-not-holds, Else-not-is_right, Else-p-i}
 
 -- what the lookup in a body gives
-abbrev lookedUp : (i p : ℕ) (e : Entry) (body : List ℕ) → Row
-lookedUp i p e body = pick (has_good_runs e body) (given e (p % 1024) (get_or (block_of e body) (p % 1024) 0)) (Refused (Runs i))
+abbrev lookedUp : (i p : ℕ) (e : Entry) (body : List ℕ) → Result Row FileRefusal
+lookedUp i p e body = pick (has_good_runs e body) (Ok (given e (p % 1024) (get_or (block_of e body) (p % 1024) 0))) (Err (Runs i))
 
 -- the test of the body's end, of the entry that was read
 held-is : (c : After-holds) → c.holds.result ≡ leb (c.args.at + (entry_or c.args.file.now c.args.i).length) (length c.args.file.now)

@@ -1,13 +1,13 @@
 -- `files::row_in` meets its contract: each kind has its lookup, and only a body of runs can still be refused.
 -- Assumes nothing.
+use Rattle.std.specs.Prelude.{Ok, Err}
 use Rattle.std.proofs.Common.{◌<◌, get_or, sym, ap, ◌∙◌, arith}
 use Rattle.lists.specs.Pick.{pick}
-use Rattle.contents.specs.declared.FileAnswer.TheVariants.{Runs}
+use Rattle.contents.specs.declared.FileRefusal.TheVariants.{Runs}
 use Rattle.contents.proofs.Laid.{laid_differences, laid_kind}
 use Rattle.bodies.specs.Bodies.{block_of, has_good_runs}
 use Rattle.bodies.proofs.Bodies.{block_differences, other-runs}
-use Rattle.files.specs.declared.Row.TheVariants.{Uncounted, Refused}
-use Rattle.files.specs.Rows.{given}
+use Rattle.files.specs.Rows.{uncounted, given}
 use Rattle.files.proofs.Places.{given_counted, given_uncounted}
 use Rattle.files.proofs.row_in.Goals as goal
 
@@ -29,10 +29,10 @@ returns-in-2 c =
     let e = c.args.e in
     let body = c.args.body.now in
     let place = c.args.place in
-    ap Uncounted (c.sum_up.ensures ∙ ap (λ block. get_or block place 0) (sym (block_differences e body c.in-2.is)))
+    ap (λ v. Ok (uncounted v)) (c.sum_up.ensures ∙ ap (λ block. get_or block place 0) (sym (block_differences e body c.in-2.is)))
     ∙ sym
-    (ap (λ b. pick b (given e place (get_or (block_of e body) place 0)) (Refused (Runs c.args.i))) (other-runs e body (λ k. omega arith))
-    ∙ given_uncounted e place (get_or (block_of e body) place 0) (omega arith))
+    (ap (λ b. pick b (Ok (given e place (get_or (block_of e body) place 0))) (Err (Runs c.args.i))) (other-runs e body (λ k. omega arith))
+    ∙ ap Ok (given_uncounted e place (get_or (block_of e body) place 0) (omega arith)))
 
 pub returns-in-3 : goal.returns-in-3
 returns-in-3 c =
@@ -40,7 +40,7 @@ returns-in-3 c =
     let body = c.args.body.now in
     let place = c.args.place in
     c.run_row.ensures
-    ∙ ap (λ row. pick (has_good_runs e body) row (Refused (Runs c.args.i))) (sym (given_uncounted e place (get_or (block_of e body) place 0) (omega arith)))
+    ∙ ap (λ row. pick (has_good_runs e body) (Ok row) (Err (Runs c.args.i))) (sym (given_uncounted e place (get_or (block_of e body) place 0) (omega arith)))
 
 pub returns-in_default : goal.returns-in_default
 returns-in_default c =
@@ -48,7 +48,7 @@ returns-in_default c =
     let body = c.args.body.now in
     let place = c.args.place in
     let low : e.kind < 2 = omega (arith, laid_kind e c.requires.e_value) in
-    c.packed_row.ensures
+    ap Ok c.packed_row.ensures
     ∙ sym
-    (ap (λ b. pick b (given e place (get_or (block_of e body) place 0)) (Refused (Runs c.args.i))) (other-runs e body (λ k. omega arith))
-    ∙ given_counted e place (get_or (block_of e body) place 0) low)
+    (ap (λ b. pick b (Ok (given e place (get_or (block_of e body) place 0))) (Err (Runs c.args.i))) (other-runs e body (λ k. omega arith))
+    ∙ ap Ok (given_counted e place (get_or (block_of e body) place 0) low))

@@ -1,12 +1,8 @@
 -- `listing::put_lines` meets its contract: the lines of the first k places are laid.
 -- Assumes nothing.
-use Prim.Native.Nat.{◌-◌, ◌≤◌}
 use Rattle.compare.specs.Changes.{changes_in}
 use Rattle.listing.proofs.Lines.{LaidTo}
 use Rattle.listing.proofs.put_lines.Given as goal
 
 abbrev pub invariant-loop-k : goal.invariant-loop-k
-invariant-loop-k l = (l.k ≤ l.n) × LaidTo (changes_in l.i l.left l.right) l.k l.initial.out l.out l.at
-
-abbrev pub decreases-loop-k : goal.decreases-loop-k
-decreases-loop-k l = l.n - l.k
+invariant-loop-k l = LaidTo (changes_in l.i l.left l.right) l.k l.initial.out l.out l.at

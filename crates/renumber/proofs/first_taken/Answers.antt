@@ -18,7 +18,7 @@ returns-then-not-meets_along c =
     (ap (λ r. meets_in (along args.order.now args.new.now) r.smallest r.largest) (sym c.requires.range_value) ∙ sym c.meets_along.ensures ∙ c.if-not-meets_along.true)
 
 pub loop-k-init : goal.loop-k-init
-loop-k-init c = (omega arith, λ j h. absurd (omega arith))
+loop-k-init c = λ j h. absurd (omega arith)
 
 pub is_free-requires : goal.is_free-requires
 is_free-requires c = c.requires.paired
@@ -27,14 +27,13 @@ pub returns-then-not-is_free : goal.returns-then-not-is_free
 returns-then-not-is_free c =
     let args = c.args in
     let loop = c.loop-k in
-    taken-found args.old.now args.new.now args.block.now loop.k loop.invariant.0 loop.invariant.1 (sym c.is_free.ensures ∙ c.if-not-is_free.true)
+    taken-found args.old.now args.new.now args.block.now loop.k (omega arith) loop.invariant (sym c.is_free.ensures ∙ c.if-not-is_free.true)
 
 pub loop-k-preserved : goal.loop-k-preserved
 loop-k-preserved c =
-    (omega arith, below_more _ _ c.loop-k.invariant.1 (sym c.is_free.ensures ∙ c.if-not-is_free.false))
+    below_more _ _ c.loop-k.invariant (sym c.is_free.ensures ∙ c.if-not-is_free.false)
 
 pub returns : goal.returns
 returns c =
     let args = c.args in
-    let loop = c.loop-k in
-    taken_none args.old.now args.new.now args.block.now loop.k loop.invariant.0 loop.invariant.1 (omega arith)
+    taken_none args.old.now args.new.now args.block.now _ (omega arith) (λ j h. c.loop-k.invariant j (omega arith)) (omega arith)

@@ -3,13 +3,10 @@
 use mathlib.Core.Bool.{true}
 use mathlib.Core.Path.{◌≡◌}
 use Rattle.renumber.specs.Pairs.{is_free}
-use Prim.Native.Nat.{ℕ, ◌-◌, ◌≤◌, ◌<◌}
-use lib.ListN.{length, get_or}
+use Prim.Native.Nat.{ℕ, ◌<◌}
+use lib.ListN.{get_or}
 use Rattle.renumber.proofs.first_taken.Given as goal
 
 abbrev pub invariant-loop-k : goal.invariant-loop-k
 invariant-loop-k l =
-    (l.k ≤ length l.block) × ((j : ℕ) → j < l.k → is_free l.old l.new (get_or l.block j 0) ≡ true)
-
-abbrev pub decreases-loop-k : goal.decreases-loop-k
-decreases-loop-k l = length l.block - l.k
+    (j : ℕ) → j < l.k → is_free l.old l.new (get_or l.block j 0) ≡ true

@@ -18,30 +18,29 @@ tested-is c =
     let low = c.args.low in
     let high = c.args.high in
     c.opens.ensures
-    ∙ file-opens l low high c.requires c.loop-i.i (omega (arith, c.loop-i.invariant.1))
+    ∙ file-opens l low high c.requires c.loop-i.i (omega (arith, c.loop-i.invariant.0))
     ∙ sym (ap (opens l low high) (zero-add c.loop-i.i))
 
 pub loop-i-init : goal.loop-i-init
 loop-i-init c =
-    (omega arith, c.count-n.ensures ∙ count-read c.args.file.now c.requires, sym (ap length (passing-none_yet 0 _)))
+    (c.count-n.ensures ∙ count-read c.args.file.now c.requires, sym (ap length (passing-none_yet 0 _)))
 
 pub overflow_add-k : goal.overflow_add-k
 overflow_add-k c =
     let args = c.args in
-    omega (arith, c.loop-i.invariant.2, passing-length 0 c.loop-i.i (opens args.file.now args.low args.high))
+    omega (arith, c.loop-i.invariant.1, passing-length 0 c.loop-i.i (opens args.file.now args.low args.high))
 
 pub loop-i-preserved : goal.loop-i-preserved
 loop-i-preserved c =
     let args = c.args in
     let test = opens args.file.now args.low args.high in
     let i = c.loop-i.i in (
-      omega arith,
-      c.loop-i.invariant.1,
+      c.loop-i.invariant.0,
       elim c.if-opens.branch [
         | then-opens w ↦
-            omega (arith, w.k-is, c.loop-i.invariant.2, more_pass 0 test i (sym (tested-is (goal.at.loop-i-preserved c).After-opens) ∙ w.if-opens.true))
+            omega (arith, w.k-is, c.loop-i.invariant.1, more_pass 0 test i (sym (tested-is (goal.at.loop-i-preserved c).After-opens) ∙ w.if-opens.true))
         | else-opens w ↦
-            omega (arith, w.k-is, c.loop-i.invariant.2, ap length (same_pass 0 test i (sym (tested-is (goal.at.loop-i-preserved c).After-opens) ∙ w.if-opens.false)))
+            omega (arith, w.k-is, c.loop-i.invariant.1, ap length (same_pass 0 test i (sym (tested-is (goal.at.loop-i-preserved c).After-opens) ∙ w.if-opens.false)))
       ],
     )
 
@@ -50,5 +49,5 @@ unfolding opened
 returns c =
     let args = c.args in
     let l = args.file.now in
-    let all : c.loop-i.i ≡ count l = omega (arith, c.loop-i.invariant.0, c.loop-i.invariant.1) in
-    c.loop-i.invariant.2 ∙ ap (λ n. length (passing 0 n (opens l args.low args.high))) all
+    let all : c.loop-i.i ≡ count l = omega (arith, c.loop-i.invariant.0) in
+    c.loop-i.invariant.1 ∙ ap (λ n. length (passing 0 n (opens l args.low args.high))) all

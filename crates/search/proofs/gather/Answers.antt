@@ -21,12 +21,12 @@ returns-then-high-low c =
     record { value = sym (ap length is); found_after = sym is; found_len_2 = c.requires.found_len }
 
 pub loop-o-init : goal.loop-o-init
-loop-o-init c = (omega arith, omega arith, search rules, gathered_none _ _ _)
+loop-o-init c = (omega arith, search rules, gathered_none _ _ _)
 
 pub loop-i-init : goal.loop-i-init
 loop-i-init c =
     let n : c.loop-o.o * 8 ≡ c.loop-o.o * 8 + 0 = omega arith in
-    (omega arith, omega arith, c.loop-o.invariant.2, rw n at c.loop-o.invariant.3)
+    (omega arith, c.loop-o.invariant.1, rw n at c.loop-o.invariant.2)
 
 -- how much the count rises
 risen : (b : Bool) → bool_byte b ≤ 1
@@ -54,19 +54,18 @@ loop-i-preserved c =
     let args = c.args in
     let bit = leb c.wrapping_sub_u64.result (args.high - args.low) in
     let next : c.loop-o.o * 8 + c.loop-i.i + 1 ≡ c.loop-o.o * 8 + (c.loop-i.i + 1) = omega arith in (
-      omega arith,
       omega (arith, risen bit),
-      length-set c.loop-i.found c.loop-i.n _ ∙ c.loop-i.invariant.2,
-      rw next at (gathered_next _ bit c.loop-i.invariant.3 (omega arith) (sym (zero-add _)) (tested-is (goal.at.loop-i-preserved c).After-wrapping_sub_u64)),
+      length-set c.loop-i.found c.loop-i.n _ ∙ c.loop-i.invariant.1,
+      rw next at (gathered_next _ bit c.loop-i.invariant.2 (omega arith) (sym (zero-add _)) (tested-is (goal.at.loop-i-preserved c).After-wrapping_sub_u64)),
     )
 
 pub loop-o-preserved : goal.loop-o-preserved
 loop-o-preserved c =
     let n : c.loop-o.o * 8 + c.loop-i.i ≡ (c.loop-o.o + 1) * 8 = omega arith in
-    (omega arith, omega arith, c.loop-i.invariant.2, rw n at c.loop-i.invariant.3)
+    (omega arith, c.loop-i.invariant.1, rw n at c.loop-i.invariant.2)
 
 pub returns : goal.returns
 returns c =
     let args = c.args in
     let test = in_block args.block.now 0 args.low args.high in
-    let all : c.loop-o.o * 8 ≡ length args.block.now = omega (arith, c.requires.block_len) in record { value = c.loop-o.invariant.3.at ∙ ap (λ n. length (passing 0 n test)) all; found_after = c.loop-o.invariant.3.is ∙ ap (λ n. passing 0 n test) all; found_len_2 = c.loop-o.invariant.2 }
+    let all : c.loop-o.o * 8 ≡ length args.block.now = omega (arith, c.requires.block_len) in record { value = c.loop-o.invariant.2.at ∙ ap (λ n. length (passing 0 n test)) all; found_after = c.loop-o.invariant.2.is ∙ ap (λ n. passing 0 n test) all; found_len_2 = c.loop-o.invariant.1 }

@@ -8,20 +8,20 @@ use Rattle.search.proofs.Within.{tab-map}
 use Rattle.search.proofs.put_rows.Goals as goal
 
 pub loop-q-init : goal.loop-q-init
-loop-q-init c = (omega arith, written_none (omega arith))
+loop-q-init c = written_none (omega arith)
 
 pub bounds-rows-k : goal.bounds-rows-k
-bounds-rows-k c = omega (arith, written-length c.loop-q.invariant.1)
+bounds-rows-k c = omega (arith, written-length c.loop-q.invariant)
 
 pub loop-q-preserved : goal.loop-q-preserved
 unfolding plus
 loop-q-preserved c =
-    (omega arith, written_next c.loop-q.invariant.1 _ _ (omega arith) refl c.wrapping_add_u64.ensures.value)
+    written_next c.loop-q.invariant _ _ (omega arith) refl c.wrapping_add_u64.ensures.value
 
 pub returns : goal.returns
 returns c =
     let args = c.args in
     let places = args.places.now in
     let all : c.loop-q.q ≡ length places = omega arith in
-    c.loop-q.invariant.1.is
+    c.loop-q.invariant.is
     ∙ ap (λ l. over args.k l args.rows.now) (ap (λ n. tab n (λ i. plus 64 args.first (get_or places i 0))) all ∙ tab-map (plus 64 args.first) places)

@@ -1,7 +1,8 @@
 -- `search::rows_in` meets its contract: each refusal by its test, and the rows by what `list_block` ensures.
 -- Assumes nothing.
+use Rattle.std.specs.Prelude.{Ok}
 use Rattle.std.proofs.Common.{◌≡◌, ◌*◌, true, leb, length, sym, refl, ap, ◌∙◌, zero-add, arith, leb-true}
-use Rattle.search.specs.declared.Found.TheVariants.{Rows}
+use Rattle.search.specs.Search.{counts}
 use Rattle.search.specs.Steps.{found_in}
 use Rattle.search.proofs.Blocks.{found_shift}
 use Rattle.search.proofs.OneBlock.{listed-refused, listed-done, no_block, no_number, no_place, place_there}
@@ -13,7 +14,7 @@ returns-then-block-ne1024 c =
     let args = c.args in
     let is =
     listed-refused args.block.now args.i args.low args.high args.rows.now
-    (no_block args.block.now args.i args.low args.high args.rows.now c.if-block-ne1024.true) (λ e. omega arith) in
+    (no_block args.block.now args.i args.low args.high args.rows.now c.if-block-ne1024.true) in
     record { value = sym is.0; rows_after = sym is.1 }
 
 pub returns-then-i-ge256 : goal.returns-then-i-ge256
@@ -21,7 +22,7 @@ returns-then-i-ge256 c =
     let args = c.args in
     let is =
     listed-refused args.block.now args.i args.low args.high args.rows.now
-    (no_number args.block.now args.i args.low args.high args.rows.now c.if-block-ne1024.false c.if-i-ge256.true) (λ e. omega arith) in
+    (no_number args.block.now args.i args.low args.high args.rows.now c.if-block-ne1024.false c.if-i-ge256.true) in
     record { value = sym is.0; rows_after = sym is.1 }
 
 pub block_fits-requires : goal.block_fits-requires
@@ -33,7 +34,7 @@ returns-then-not-block_fits c =
     let args = c.args in
     let is =
     listed-refused args.block.now args.i args.low args.high args.rows.now
-    (no_place args.block.now args.i args.low args.high args.rows.now long (omega (arith, c.if-i-ge256.false)) (sym c.block_fits.ensures ∙ c.if-not-block_fits.true)) (λ e. omega arith) in
+    (no_place args.block.now args.i args.low args.high args.rows.now long (omega (arith, c.if-i-ge256.false)) (sym c.block_fits.ensures ∙ c.if-not-block_fits.true)) in
     record { value = sym is.0; rows_after = sym is.1 }
 
 -- there is room for the rows
@@ -56,4 +57,4 @@ returns c =
     let block = args.block.now in
     let is =
     listed-done block args.i args.low args.high args.rows.now
-    (place_there block args.i args.low args.high args.rows.now c.if-block-ne1024.false (omega (arith, c.if-i-ge256.false)) (there (goal.at.returns c).Else-not-block_fits)) in record { value = ap (λ n. Rows n 1) (c.list_block-n.ensures.value ∙ zero-add (length (found_in block (args.i * 1024) args.low args.high))) ∙ sym is.0; rows_after = c.list_block-n.ensures.rows_after ∙ sym is.1 }
+    (place_there block args.i args.low args.high args.rows.now c.if-block-ne1024.false (omega (arith, c.if-i-ge256.false)) (there (goal.at.returns c).Else-not-block_fits)) in record { value = ap (λ n. Ok (counts n 1)) (c.list_block-n.ensures.value ∙ zero-add (length (found_in block (args.i * 1024) args.low args.high))) ∙ sym is.0; rows_after = c.list_block-n.ensures.rows_after ∙ sym is.1 }

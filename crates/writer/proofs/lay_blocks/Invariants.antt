@@ -1,7 +1,7 @@
 -- `writer::lay_blocks` meets its contract: after each block the output holds the entries and the bodies up to there.
 -- Assumes nothing.
 use mathlib.Core.Path.{◌≡◌}
-use Prim.Native.Nat.{◌+◌, ◌-◌, ◌≤◌}
+use Prim.Native.Nat.{◌+◌}
 use lib.ListN.{length}
 use Rattle.contents.specs.Contents.{contents_size}
 use Rattle.writer.specs.InnerKept.{Rooms}
@@ -11,7 +11,4 @@ use Rattle.writer.proofs.lay_blocks.Given as goal
 
 abbrev pub invariant-loop-i : goal.invariant-loop-i
 invariant-loop-i l =
-    (l.i ≤ l.n) × (l.at ≡ contents_size 2 l.n + length (bodies_for l.values l.i)) × (l.output ≡ laid_to l.values l.n l.i l.initial.output) × Rooms l.plain l.frame l.rest
-
-abbrev pub decreases-loop-i : goal.decreases-loop-i
-decreases-loop-i l = l.n - l.i
+    (l.at ≡ contents_size 2 l.n + length (bodies_for l.values l.i)) × (l.output ≡ laid_to l.values l.n l.i l.initial.output) × Rooms l.plain l.frame l.rest

@@ -32,10 +32,10 @@ pub loop-i-init : goal.loop-i-init
 unfolding contents_size entry_size
 loop-i-init c =
     let args = c.args in
-    (omega arith, refl, omega (arith, ap length (bodies-none args.values.now)), omega arith, kept_none (block_at args.values.now) args.kept.now)
+    (refl, omega (arith, ap length (bodies-none args.values.now)), omega arith, kept_none (block_at args.values.now) args.kept.now)
 
 pub keep-requires : goal.keep-requires
-keep-requires c = record { i_bound = omega arith; kept_len = c.loop-i.invariant.3 }
+keep-requires c = record { i_bound = omega arith; kept_len = c.loop-i.invariant.2 }
 
 -- what was measured
 measured-is : (c : After-measure-m)
@@ -60,15 +60,14 @@ loop-i-preserved c =
     let i = c.loop-i.i in
     let inv = c.loop-i.invariant in
     let is = measured-is (goal.at.loop-i-preserved c).After-measure-m in (
-      omega arith,
-      inv.1,
-      omega (arith, inv.2, ap (λ m. m.entry.length) is, bodies_longer values i, ap (λ k. length (bodies_for values k)) (add-one i)),
-      ap length c.keep.ensures ∙ kept_length c.loop-i.kept (i * 3) _ _ _ ∙ inv.3,
-      kept_next inv.4 inv.3 (omega arith) (ap (λ m. m.range.smallest) is) (ap (λ m. m.range.largest) is) (ap (λ m. m.steps) is) c.keep.ensures,
+      inv.0,
+      omega (arith, inv.1, ap (λ m. m.entry.length) is, bodies_longer values i, ap (λ k. length (bodies_for values k)) (add-one i)),
+      ap length c.keep.ensures ∙ kept_length c.loop-i.kept (i * 3) _ _ _ ∙ inv.2,
+      kept_next inv.3 inv.2 (omega arith) (ap (λ m. m.range.smallest) is) (ap (λ m. m.range.largest) is) (ap (λ m. m.steps) is) c.keep.ensures,
     )
 
 pub returns : goal.returns
 unfolding contents_size entry_size
 returns c =
     let values = c.args.values.now in
-    let all : c.loop-i.i ≡ block_count values = omega arith in record { value = omega (arith, c.loop-i.invariant.2, length-file values, ap (λ k. length (bodies_for values k)) all); kept = λ k h. c.loop-i.invariant.4 k (omega arith) }
+    let all : c.loop-i.i ≡ block_count values = omega arith in record { value = omega (arith, c.loop-i.invariant.1, length-file values, ap (λ k. length (bodies_for values k)) all); kept = λ k h. c.loop-i.invariant.3 k (omega arith) }

@@ -2,7 +2,7 @@
 -- blocks up to there are laid down by is kept.
 -- Assumes nothing.
 use mathlib.Core.Path.{◌≡◌}
-use Prim.Native.Nat.{◌+◌, ◌-◌, ◌≤◌}
+use Prim.Native.Nat.{◌+◌}
 use lib.ListN.{length}
 use Rattle.contents.specs.Contents.{contents_size}
 use Rattle.writer.specs.InnerKept.{Kept}
@@ -11,7 +11,4 @@ use Rattle.writer.proofs.measure_blocks.Given as goal
 
 abbrev pub invariant-loop-i : goal.invariant-loop-i
 invariant-loop-i l =
-    (l.i ≤ l.n) × (l.n ≡ block_count l.values) × (l.size ≡ contents_size 2 l.n + length (bodies_for l.values l.i)) × (length l.kept ≡ 768) × Kept (block_at l.values) l.kept l.i
-
-abbrev pub decreases-loop-i : goal.decreases-loop-i
-decreases-loop-i l = l.n - l.i
+    (l.n ≡ block_count l.values) × (l.size ≡ contents_size 2 l.n + length (bodies_for l.values l.i)) × (length l.kept ≡ 768) × Kept (block_at l.values) l.kept l.i

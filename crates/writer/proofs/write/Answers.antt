@@ -3,7 +3,7 @@
 use mathlib.Core.Path.{ap, ◌∙◌}
 use native.Mathlib.Omega.{arith}
 use borrow.Author.Rules.{rules}
-use Rattle.writer.specs.declared.Written.TheVariants.{Length}
+use Rattle.std.specs.Prelude.{Ok}
 use Rattle.writer.proofs.Calls.{refused_blocks, refused_many, refused-room, written}
 use borrow.Author.Rules.{rules}
 use Rattle.writer.proofs.write.Goals as goal
@@ -31,4 +31,4 @@ pub returns : goal.returns
 returns c =
     let args = c.args in
     let given = written args.values.now args.output.now c.if-values-ne0.false c.if-values-gt262144.false (omega (arith, c.measure_blocks-size.ensures.value)) in
-    record { value = ap Length c.measure_blocks-size.ensures.value ∙ given.0; output_after = c.lay_file.ensures ∙ given.1 }
+    record { value = ap Ok c.measure_blocks-size.ensures.value ∙ given.0; output_after = c.lay_file.ensures ∙ given.1 }

@@ -4,7 +4,6 @@
 use mathlib.Core.Path.{ap₂, ◌∙◌}
 use Prim.Native.Nat.{◌*◌}
 use native.Mathlib.Omega.{arith}
-use borrow.Author.Rules.{rules}
 use Rattle.lists.specs.Numbers.{Elements}
 use Rattle.places.specs.Sizes.{t64, lanes}
 use Rattle.places.proofs.Places.{size64}
@@ -20,12 +19,12 @@ use Rattle.bodies.proofs.Bytes.{row_words}
 use Rattle.bodies.proofs.walks.raised_copy.Goals as goal
 
 pub loop-r-init : goal.loop-r-init
-loop-r-init c = (search rules, starts_first, laid_none c.requires.values_len)
+loop-r-init c = (starts_first, laid_none c.requires.values_len)
 
 pub put_at-requires : goal.put_at-requires
 put_at-requires c =
     let inv = c.loop-r.invariant in
-    omega (arith, starts_room size64 c.loop-r-test.true inv.1, inv.2.long)
+    omega (arith, starts_room size64 c.loop-r-test.true inv.0, inv.1.long)
 
 pub loop-r-preserved : goal.loop-r-preserved
 loop-r-preserved c =
@@ -40,11 +39,10 @@ loop-r-preserved c =
     c.wrapping_add.ensures
     ∙ ap₂ (add_of t64) (c.row_of.ensures ∙ words ∙ copied_row size64 r packed (words_fit body 0 1024 fits) hr) c.splat-lift.ensures
     ∙ raised_row t64 _ _ in (
-      omega arith,
-      starts_next size64 hr inv.1 c.next_start-start.ensures,
-      laid_next size64 hr inv.2 (starts_at size64 hr inv.1) row c.put_at.ensures,
+      starts_next size64 hr inv.0 c.next_start-start.ensures,
+      laid_next size64 hr inv.1 (starts_at size64 hr inv.0) row c.put_at.ensures,
     )
 
 pub returns : goal.returns
 unfolding unfor_pack_of
-returns c = laid_all size64 c.loop-r.invariant.2 (omega arith)
+returns c = laid_all size64 c.loop-r.invariant.1 (omega arith)

@@ -1,7 +1,7 @@
 -- `bodies::walks::raised_split` meets its contract. The loops' invariants: the first rows hold their values, raised by
 -- the reference, and the walk stands where the next one begins.
 -- Assumes nothing.
-use Prim.Native.Nat.{◌+◌, ◌-◌, ◌*◌, ◌/◌, ◌≤◌}
+use Prim.Native.Nat.{◌+◌, ◌*◌}
 use Rattle.lists.specs.Numbers.{plus}
 use Rattle.places.specs.Sizes.{t64}
 use Rattle.rows.proofs.Blocks.{Laid}
@@ -12,16 +12,10 @@ use Rattle.bodies.proofs.walks.raised_split.Given as goal
 
 abbrev pub invariant-loop-i : goal.invariant-loop-i
 invariant-loop-i l =
-    (l.i ≤ 8) × Stands l.width (l.o * 8 + l.i) l.s l.at
+    Stands l.width (l.o * 8 + l.i) l.s l.at
     × Laid t64 (l.o * 8 + l.i) (λ p. plus t64 (value_at t64 l.width (packed_from l.body 0 l.width) p) l.reference) l.values
-
-abbrev pub decreases-loop-i : goal.decreases-loop-i
-decreases-loop-i l = 8 - l.i
 
 abbrev pub invariant-loop-o : goal.invariant-loop-o
 invariant-loop-o l =
-    (l.o ≤ t64 / 8) × Stands l.width (l.o * 8) l.s l.at
+    Stands l.width (l.o * 8) l.s l.at
     × Laid t64 (l.o * 8) (λ p. plus t64 (value_at t64 l.width (packed_from l.body 0 l.width) p) l.reference) l.values
-
-abbrev pub decreases-loop-o : goal.decreases-loop-o
-decreases-loop-o l = t64 / 8 - l.o

@@ -4,7 +4,6 @@
 use mathlib.Core.Path.{sym, ◌∙◌}
 use Prim.Native.Nat.{◌*◌}
 use native.Mathlib.Omega.{arith}
-use borrow.Author.Rules.{rules}
 use Rattle.lists.specs.Numbers.{Elements}
 use Rattle.places.specs.Sizes.{t64, lanes}
 use Rattle.places.proofs.Places.{size64}
@@ -19,12 +18,12 @@ use Rattle.bodies.proofs.walks.summed_copy.Goals as goal
 
 pub loop-r-init : goal.loop-r-init
 loop-r-init c =
-    (search rules, starts_first, summing_none c.requires.base_len c.requires.values_len c.load-prev.ensures)
+    (starts_first, summing_none c.requires.base_len c.requires.values_len c.load-prev.ensures)
 
 pub put_at-requires : goal.put_at-requires
 put_at-requires c =
     let inv = c.loop-r.invariant in
-    omega (arith, starts_room size64 c.loop-r-test.true inv.1, inv.2.laid.long)
+    omega (arith, starts_room size64 c.loop-r-test.true inv.0, inv.1.laid.long)
 
 pub loop-r-preserved : goal.loop-r-preserved
 loop-r-preserved c =
@@ -36,14 +35,13 @@ loop-r-preserved c =
     let inv = c.loop-r.invariant in
     let hr = c.loop-r-test.true in
     let row = c.row_of.ensures ∙ words ∙ copied_row size64 r packed (words_fit body 0 1024 fits) hr ∙ unpacked_row size64 t64 _ packed hr in (
-      omega arith,
-      starts_next size64 hr inv.1 c.next_start-start.ensures,
-      summing_next size64 hr inv.2 (starts_at size64 hr inv.1) row c.wrapping_add-next.ensures
+      starts_next size64 hr inv.0 c.next_start-start.ensures,
+      summing_next size64 hr inv.1 (starts_at size64 hr inv.0) row c.wrapping_add-next.ensures
           c.put_at.ensures,
     )
 
 pub returns : goal.returns
 returns c =
     let args = c.args in
-    summing_all size64 c.loop-r.invariant.2 (omega arith)
+    summing_all size64 c.loop-r.invariant.1 (omega arith)
     ∙ sym (undelta-pack-is size64 t64 (packed_from args.body.now 0 t64) args.base.now)

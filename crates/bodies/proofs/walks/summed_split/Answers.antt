@@ -6,7 +6,6 @@ use Prim.Native.Nat.{◌+◌, ◌*◌, ◌≤◌, ◌<◌}
 use native.Mathlib.Nat.{add-zero, add_assoc}
 use native.Mathlib.Omega.{arith}
 use lib.ListN.{length}
-use borrow.Author.Rules.{rules}
 use Rattle.lists.specs.Numbers.{Elements}
 use Rattle.places.specs.Sizes.{t64}
 use Rattle.places.proofs.Places.{size64}
@@ -22,20 +21,20 @@ use Rattle.bodies.proofs.walks.summed_split.Goals.{In-loop-i, Joined-s-ge-T, the
 
 pub loop-o-init : goal.loop-o-init
 loop-o-init c =
-    (search rules, stands-first _, summing_none c.requires.base_len c.requires.values_len c.load-prev.ensures)
+    (stands-first _, summing_none c.requires.base_len c.requires.values_len c.load-prev.ensures)
 
 pub loop-i-init : goal.loop-i-init
-loop-i-init c = (search rules, rw add-zero c.loop-o.invariant.1, rw add-zero c.loop-o.invariant.2)
+loop-i-init c = (rw add-zero c.loop-o.invariant.0, rw add-zero c.loop-o.invariant.1)
 
 -- a turn of the inner loop: its row is one of the block's, and begins in words that lie within the body
 row_lt : (c : In-loop-i) → c.loop-o.o * 8 + c.loop-i.i < t64
 row_lt c = omega arith
 
 first-room : (c : In-loop-i) → c.loop-i.at + 128 ≤ length c.args.body.now
-first-room c = omega (arith, stands-room (row_lt c) c.requires.width_nonzero.0 c.loop-i.invariant.1)
+first-room c = omega (arith, stands-room (row_lt c) c.requires.width_nonzero.0 c.loop-i.invariant.0)
 
 bit-lt : (c : In-loop-i) → c.loop-i.s < t64
-bit-lt c = stands-lt (row_lt c) c.requires.width_nonzero.0 c.loop-i.invariant.1
+bit-lt c = stands-lt (row_lt c) c.requires.width_nonzero.0 c.loop-i.invariant.0
 
 pub row_of-requires : goal.row_of-requires
 row_of-requires c = first-room (goal.at.row_of-requires c).In-loop-i
@@ -48,14 +47,14 @@ overflow_add-at c = omega (arith, first-room (goal.at.overflow_add-at c).In-loop
 
 pub row_of-requires-then-s-gt0 : goal.row_of-requires-then-s-gt0
 row_of-requires-then-s-gt0 c =
-    omega (arith, stands-room_two (row_lt (goal.at.row_of-requires-then-s-gt0 c).In-loop-i) c.requires.width_nonzero.0 c.loop-i.invariant.1 (omega arith))
+    omega (arith, stands-room_two (row_lt (goal.at.row_of-requires-then-s-gt0 c).In-loop-i) c.requires.width_nonzero.0 c.loop-i.invariant.0 (omega arith))
 
 pub overflow_sub-width : goal.overflow_sub-width
 overflow_sub-width c = omega (arith, bit-lt (goal.at.overflow_sub-width c).In-loop-i)
 
 pub put_at-requires : goal.put_at-requires
 put_at-requires c =
-    rw c.loop-i.invariant.2.laid.long
+    rw c.loop-i.invariant.1.laid.long
     (start_in size64 _ _ _ c.loop-i-test.true (row_lt (goal.at.put_at-requires c).In-loop-i) c.row_start.ensures)
 
 -- the row is read
@@ -65,7 +64,7 @@ is_read : (c : Joined-s-ge-T)
 is_read c =
     let body = c.args.body.now in
     let fits : Elements 8 body = λ i. omega (arith, c.type_inv.body i) in
-    let at = c.loop-i.invariant.1 in
+    let at = c.loop-i.invariant.0 in
     let hr = (let it : c.loop-o.o * 8 + c.loop-i.i < t64 = omega arith in it) in
     let first = c.shr-row.ensures ∙ ap (λ x. shr_of t64 x c.loop-i.s) c.row_of.ensures in
     elim c.if-s-ge-T.branch [
@@ -86,10 +85,9 @@ loop-i-preserved c =
     let read = is_read (goal.at.loop-i-preserved c).Joined-s-ge-T in
     let row = c.mask.ensures ∙ read.read.cut ∙ unpacked_row size64 c.args.width _ packed hr in
     let summed =
-    summing_next size64 hr c.loop-i.invariant.2 found row c.wrapping_add-next.ensures
+    summing_next size64 hr c.loop-i.invariant.1 found row c.wrapping_add-next.ensures
     c.put_at.ensures in
     let next = add_assoc (c.loop-o.o * 8) c.loop-i.i 1 in (
-      omega arith,
       rw next at (stands-next read),
       rw next at summed,
     )
@@ -99,9 +97,9 @@ loop-o-preserved c =
     let o = c.loop-o.o in
     let inv = c.loop-i.invariant in
     let next : o * 8 + c.loop-i.i ≡ (o + 1) * 8 = omega arith in
-    (omega arith, rw next at inv.1, rw next at inv.2)
+    (rw next at inv.0, rw next at inv.1)
 
 pub returns : goal.returns
 returns c =
-    summing_all size64 c.loop-o.invariant.2 (omega arith)
+    summing_all size64 c.loop-o.invariant.1 (omega arith)
     ∙ sym (undelta-pack-is size64 c.args.width (packed_from c.args.body.now 0 c.args.width) c.args.base.now)

@@ -33,7 +33,7 @@ loop-p-preserved c =
     )
 
 pub loop-o-init : goal.loop-o-init
-loop-o-init c = (omega arith, stepped_none c.loop-p.invariant.0 c.loop-p.invariant.1 c.loop-p-test.false)
+loop-o-init c = stepped_none c.loop-p.invariant.0 c.loop-p.invariant.1 c.loop-p-test.false
 
 -- where the two rows of a crossing start
 from_is : (c : After-row_start) → c.row_start.result ≡ place (c.loop-o.o * 8 + 7) 0
@@ -54,13 +54,11 @@ crossing_bits-any-requires c =
 
 pub loop-o-preserved : goal.loop-o-preserved
 loop-o-preserved c =
-    let small : c.crossing_bits-any.result < 2 ^ 64 = omega arith in (
-      omega arith,
-      stepped_next c.crossing_bits-any.result _ _ c.loop-o.invariant.1 (from_is (goal.at.loop-o-preserved c).After-row_start) (to_is (goal.at.loop-o-preserved c).After-row_start-in-loop-o) small c.crossing_bits-any.ensures,
-    )
+    let small : c.crossing_bits-any.result < 2 ^ 64 = omega arith in
+    stepped_next c.crossing_bits-any.result _ _ c.loop-o.invariant (from_is (goal.at.loop-o-preserved c).After-row_start) (to_is (goal.at.loop-o-preserved c).After-row_start-in-loop-o) small c.crossing_bits-any.ensures
 
 pub returns : goal.returns
 returns c =
     let v = c.args.values.now in
     let fits : Elements t64 v = λ i. omega (arith, c.type_inv.values i) in
-    stepped_all v fits c.loop-o.invariant.1 (omega arith)
+    stepped_all v fits c.loop-o.invariant (omega arith)

@@ -2,7 +2,7 @@
 -- differences within the eights that it passed do, and what the second has when those and the crossings that it passed
 -- do.
 -- Assumes nothing.
-use Rattle.std.proofs.Common.{◌-◌, ◌^◌, ◌<◌, ◌≤◌}
+use Rattle.std.proofs.Common.{◌^◌, ◌<◌}
 use Rattle.candidates.proofs.Widths.{Joined}
 use Rattle.candidates.proofs.Steps.{withins, Stepped}
 use Rattle.candidates.proofs.differences.step_bits.Given as goal
@@ -10,11 +10,5 @@ use Rattle.candidates.proofs.differences.step_bits.Given as goal
 abbrev pub invariant-loop-p : goal.invariant-loop-p
 invariant-loop-p l = (l.any < 2 ^ 64) × Joined (withins l.values) l.any l.p
 
-abbrev pub decreases-loop-p : goal.decreases-loop-p
-decreases-loop-p l = 896 - l.p
-
 abbrev pub invariant-loop-o : goal.invariant-loop-o
-invariant-loop-o l = (l.o ≤ 7) × Stepped l.values l.any l.o
-
-abbrev pub decreases-loop-o : goal.decreases-loop-o
-decreases-loop-o l = 7 - l.o
+invariant-loop-o l = Stepped l.values l.any l.o

@@ -1,7 +1,6 @@
 -- `candidates::differences::steps_copy` meets its contract. The loop's invariant: the first r rows of words are those
 -- of the differences, row r starts at `start`, and the row before it at `before`.
 -- Assumes nothing.
-use Rattle.std.proofs.Common.{◌-◌, ◌≤◌}
 use Rattle.places.specs.Sizes.{t64}
 use Rattle.rows.proofs.Blocks.{Starts}
 use Rattle.packing.proofs.Walks.{Filled}
@@ -11,7 +10,4 @@ use Rattle.candidates.proofs.differences.steps_copy.Given as goal
 
 abbrev pub invariant-loop-r : goal.invariant-loop-r
 invariant-loop-r l =
-    (l.r ≤ t64) × Starts l.r l.start × Before l.r l.before × Filled t64 t64 (differences l.values) l.r l.packed
-
-abbrev pub decreases-loop-r : goal.decreases-loop-r
-decreases-loop-r l = t64 - l.r
+    Starts l.r l.start × Before l.r l.before × Filled t64 t64 (differences l.values) l.r l.packed

@@ -3,12 +3,8 @@
 use mathlib.Core.Bool.{true}
 use mathlib.Core.Path.{◌≡◌}
 use Rattle.renumber.specs.Pairs.{is_ordered_at}
-use Prim.Native.Nat.{ℕ, ◌-◌, ◌≤◌, ◌<◌}
-use lib.ListN.{length}
+use Prim.Native.Nat.{ℕ, ◌<◌}
 use Rattle.renumber.proofs.pairs.first_disordered.Given as goal
 
 abbrev pub invariant-loop-i : goal.invariant-loop-i
-invariant-loop-i l = (l.i ≤ length l.order) × ((k : ℕ) → k < l.i → is_ordered_at l.new l.order k ≡ true)
-
-abbrev pub decreases-loop-i : goal.decreases-loop-i
-decreases-loop-i l = length l.order - l.i
+invariant-loop-i l = (k : ℕ) → k < l.i → is_ordered_at l.new l.order k ≡ true
