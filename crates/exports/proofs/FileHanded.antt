@@ -3,33 +3,34 @@
 -- Assumes nothing.
 use mathlib.Core.Path.{◌≡◌, subst}
 use Prim.Native.Nat.{ℕ}
+use Rattle.std.specs.Prelude.{Result}
 use Rattle.contents.specs.declared.Entry.{Entry}
-use Rattle.contents.specs.declared.FileAnswer.{FileAnswer}
+use Rattle.contents.specs.declared.FileRefusal.{FileRefusal}
 use Rattle.contents.specs.declared.Range.{Range}
 use Rattle.bodywise.specs.declared.Body.{Body}
 use Rattle.files.specs.declared.Row.{Row}
-use Rattle.writer.specs.declared.Written.{Written}
+use Rattle.renumber.specs.declared.RenumberRefusal.{RenumberRefusal}
 use Rattle.renumber.specs.declared.Renumbered.{Renumbered}
 use Rattle.search.specs.declared.Found.{Found}
-use Rattle.compare.specs.declared.Compared.{Compared}
 use Rattle.exports.specs.FileHanded.{FileHanded, RowHanded, WrittenHanded, RenumberedHanded, FoundHanded, ComparedHanded, EntryHanded, RangeHanded, BodyHanded}
+use Rattle.contents.specs.Answers.{FileAnswer}
 
 pub file_on_lem : {a b : FileAnswer} {n p : ℕ} → a ≡ b → FileHanded a n p → FileHanded b n p
 file_on_lem {n = n} {p = p} = subst (λ x. FileHanded x n p)
 
-pub row_on : {a b : Row} {n v w p : ℕ} → a ≡ b → RowHanded a n v w p → RowHanded b n v w p
+pub row_on : {a b : Result Row FileRefusal} {n v w p : ℕ} → a ≡ b → RowHanded a n v w p → RowHanded b n v w p
 row_on {n = n} {v = v} {w = w} {p = p} = subst (λ x. RowHanded x n v w p)
 
-pub written_on : {a b : Written} {n l p : ℕ} → a ≡ b → WrittenHanded a n l p → WrittenHanded b n l p
+pub written_on : {a b : Result ℕ FileRefusal} {n l p : ℕ} → a ≡ b → WrittenHanded a n l p → WrittenHanded b n l p
 written_on {n = n} {l = l} {p = p} = subst (λ x. WrittenHanded x n l p)
 
-pub renumbered_on : {a b : Renumbered} {n l k p : ℕ} → a ≡ b → RenumberedHanded a n l k p → RenumberedHanded b n l k p
+pub renumbered_on : {a b : Result Renumbered RenumberRefusal} {n l k p : ℕ} → a ≡ b → RenumberedHanded a n l k p → RenumberedHanded b n l k p
 renumbered_on {n = n} {l = l} {k = k} {p = p} = subst (λ x. RenumberedHanded x n l k p)
 
-pub found_on : {a b : Found} {n k o p : ℕ} → a ≡ b → FoundHanded a n k o p → FoundHanded b n k o p
+pub found_on : {a b : Result Found FileRefusal} {n k o p : ℕ} → a ≡ b → FoundHanded a n k o p → FoundHanded b n k o p
 found_on {n = n} {k = k} {o = o} {p = p} = subst (λ x. FoundHanded x n k o p)
 
-pub compared_on : {a b : Compared} {n k p : ℕ} → a ≡ b → ComparedHanded a n k p → ComparedHanded b n k p
+pub compared_on : {a b : Result ℕ FileRefusal} {n k p : ℕ} → a ≡ b → ComparedHanded a n k p → ComparedHanded b n k p
 compared_on {n = n} {k = k} {p = p} = subst (λ x. ComparedHanded x n k p)
 
 pub entry_on : {a b : Entry} {k w z l r : ℕ} → a ≡ b → EntryHanded a k w z l r → EntryHanded b k w z l r

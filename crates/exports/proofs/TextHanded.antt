@@ -3,7 +3,7 @@
 -- Assumes nothing.
 use mathlib.Core.Path.{◌≡◌, subst}
 use Prim.Native.Nat.{ℕ}
-use Rattle.decimal.specs.declared.Parsed.{Parsed}
+use Rattle.decimal.specs.Calls.{Parsed}
 use Rattle.summary.specs.declared.Summary.{Summary}
 use Rattle.exports.specs.TextHanded.{ParsedHanded, SummaryHanded}
 

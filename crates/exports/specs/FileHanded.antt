@@ -1,23 +1,22 @@
 -- How what a call on a column file gives crosses to a program in C or in Rust, as `Handed` has it for the calls on
 -- blocks.
 -- Assumes nothing.
-use Rattle.std.specs.Prelude.{◌≡◌, ℕ}
+use Rattle.std.specs.Prelude.{◌≡◌, ℕ, Result, Ok, Err}
+use Rattle.std.specs.Option.{unwrap_or}
 use Rattle.access.specs.Counts.{no_count}
 use Rattle.contents.specs.declared.Entry.{Entry}
-use Rattle.contents.specs.declared.FileAnswer.{FileAnswer}
+use Rattle.contents.specs.declared.FileRefusal.{FileRefusal}
 use Rattle.contents.specs.declared.Range.{Range}
-use Rattle.contents.specs.Answers.{number_of, place_of}
+use Rattle.contents.specs.Answers.{FileAnswer, number_of, place_of, answer_of}
 use Rattle.bodywise.specs.declared.Body.{Body}
 use Rattle.files.specs.declared.Row.{Row}
-use Rattle.files.specs.declared.Row.TheVariants.{Counted, Uncounted, Refused}
 use Rattle.files.specs.Rows as row
-use Rattle.writer.specs.declared.Written.{Written}
 use Rattle.writer.specs.Writer as writer
+use Rattle.renumber.specs.declared.RenumberRefusal.{RenumberRefusal}
 use Rattle.renumber.specs.declared.Renumbered.{Renumbered}
 use Rattle.renumber.specs.Renumber as renumber
 use Rattle.search.specs.declared.Found.{Found}
 use Rattle.search.specs.Search as search
-use Rattle.compare.specs.declared.Compared.{Compared}
 use Rattle.compare.specs.Changes as changes
 
 -- The number and the place that are handed over are those of this answer.
@@ -27,38 +26,37 @@ pub record FileHanded (answer : FileAnswer) (number place : ℕ) : Type 0 where
 
 -- A program in C or in Rust is handed one number for the count of words, so the largest number of 64 bits stands for a
 -- count where there is none: for a value of a block of kind 2 or 3, and after a refusal.
-abbrev pub row_words_lem : Row → ℕ
-row_words_lem (Counted v n) = n
-row_words_lem (Uncounted v) = no_count
-row_words_lem (Refused a) = no_count
+abbrev pub row_words_lem : Result Row FileRefusal → ℕ
+row_words_lem (Ok row) = unwrap_or row.words no_count
+row_words_lem (Err refusal) = no_count
 
 -- Of the lookup of a row the value and its count of words are handed over too.
-pub record RowHanded (found : Row) (number value words place : ℕ) : Type 0 where
-  pub its_answer : FileHanded (row.answer_of found) number place
+pub record RowHanded (found : Result Row FileRefusal) (number value words place : ℕ) : Type 0 where
+  pub its_answer : FileHanded (answer_of found) number place
   pub its_value : value ≡ row.value_of found
   pub its_words : words ≡ row_words_lem found
 
 -- Of the writing of a file it is its length.
-pub record WrittenHanded (written : Written) (number length place : ℕ) : Type 0 where
-  pub its_answer : FileHanded (writer.answer_of written) number place
+pub record WrittenHanded (written : Result ℕ FileRefusal) (number length place : ℕ) : Type 0 where
+  pub its_answer : FileHanded (answer_of written) number place
   pub its_length : length ≡ writer.length_of written
 
 -- Of a renumbering it is the new file's length and how many rows changed. Its answers are more than those of a file.
-pub record RenumberedHanded (result : Renumbered) (number length changed place : ℕ) : Type 0 where
-  pub its_number : number ≡ renumber.number_of (renumber.answer_of result)
-  pub its_place : place ≡ renumber.place_of (renumber.answer_of result)
+pub record RenumberedHanded (result : Result Renumbered RenumberRefusal) (number length changed place : ℕ) : Type 0 where
+  pub its_number : number ≡ renumber.number_of (answer_of result)
+  pub its_place : place ≡ renumber.place_of (answer_of result)
   pub its_length : length ≡ renumber.length_of result
   pub its_changed : changed ≡ renumber.changed_of result
 
 -- Of a search it is how many rows were found, and how many blocks were opened for it.
-pub record FoundHanded (result : Found) (number found opened place : ℕ) : Type 0 where
-  pub its_answer : FileHanded (search.answer_of result) number place
+pub record FoundHanded (result : Result Found FileRefusal) (number found opened place : ℕ) : Type 0 where
+  pub its_answer : FileHanded (answer_of result) number place
   pub its_found : found ≡ search.rows_found result
   pub its_opened : opened ≡ search.blocks_opened result
 
 -- Of the comparison of two blocks it is how many places differ.
-pub record ComparedHanded (compared : Compared) (number count place : ℕ) : Type 0 where
-  pub its_answer : FileHanded (changes.answer_of compared) number place
+pub record ComparedHanded (compared : Result ℕ FileRefusal) (number count place : ℕ) : Type 0 where
+  pub its_answer : FileHanded (answer_of compared) number place
   pub its_count : count ≡ changes.count_of compared
 
 -- An entry is handed over field by field.

@@ -14,8 +14,7 @@ pub record Handed (answer : Answer) (number place : ℕ) : Type 0 where
   pub its_number : number ≡ number_of answer
   pub its_place : place ≡ place_of answer
 
--- Of single access the value and its count of words are handed over too. The enum of each element size has these three
--- functions.
+-- Of single access the value and its count of words are handed over too, as three functions read them off what it gives.
 pub record SingleHanded {S : Type 0} (answer_of : S → Answer) (value_of words_of : S → ℕ) (single : S) (number value words place : ℕ) : Type 0 where
   pub its_answer : Handed (answer_of single) number place
   pub its_value : value ≡ value_of single

@@ -15,17 +15,20 @@ ghost use Rattle.bodywise.specs.Cursor.{body_at, first_body, next_body};
 ghost use Rattle.bodywise.specs.Steps.{front_size, held_tests as body_tests, held_leaves as body_leaves, range_tests};
 ghost use Rattle.compare.specs.Changes.{compared_of, differing_leaves};
 ghost use Rattle.compare.specs.Ranges.{same_range};
-ghost use Rattle.exports.specs.FileHanded.{FileHanded, row_words_lem, RowHanded, WrittenHanded, RenumberedHanded, FoundHanded, ComparedHanded, EntryHanded, RangeHanded, BodyHanded};
+ghost use Rattle.exports.specs.FileHanded.{FileHanded, RowHanded, WrittenHanded, RenumberedHanded, FoundHanded, ComparedHanded, EntryHanded, RangeHanded, BodyHanded};
 
 use access::{NO_COUNT, Words};
 use bodywise::{Body, body_at, check_block, first, front_length, next, row_count};
-use compare::{Compared, blocks_in_both, differing, same_range};
-use contents::{Entry, FileAnswer, Range, contents_length, count, edition, entry_or, range_or};
+use compare::{blocks_in_both, differing, same_range};
+use contents::{
+    Entry, FileAnswer, FileRefusal, Range, contents_length, count, edition, entry_or, number_of,
+    place_of, range_or,
+};
 use files::{Row, block_out, row_at, row_from};
-use renumber::{Renumbered, renumber};
+use renumber::{RenumberRefusal, Renumbered, renumber};
 use rewrite::rewrite;
 use search::{Found, opens, rows_in, search};
-use writer::{Written, write};
+use writer::write;
 
 // Checks a column file, whole.
 #[unsafe(no_mangle)]
@@ -396,69 +399,115 @@ pub extern "C" fn fascjoldi_block_differing(
 fn hand(answer: FileAnswer, place: &mut usize) -> usize
     ensures { FileHanded answer result place.new }
 {
-    *place = answer.place();
-    answer.number()
+    *place = place_of(answer);
+    number_of(answer)
 }
 
-// Hands over what the lookup of a row gives.
-fn hand_row(row: Row, value: &mut u64, words: &mut Words, place: &mut usize) -> usize
-    ensures { RowHanded row result value.new words.new place.new }
+// Hands over what the lookup of a row gives. The count of words is `NO_COUNT` where there is no count.
+fn hand_row(
+    found: Result<Row, FileRefusal>,
+    value: &mut u64,
+    words: &mut Words,
+    place: &mut usize,
+) -> usize
+    ensures { RowHanded found result value.new words.new place.new }
 {
-    *value = row.value();
-    *words = row_words(row);
-    hand(row.answer(), place)
-}
-
-// The count of words of a row as one number, which is `NO_COUNT` where there is no count.
-fn row_words(row: Row) -> Words
-    ensures { result ≡ row_words_lem row }
-{
-    match row {
-        Row::Counted(_, n) => n,
-        Row::Uncounted(_) => NO_COUNT,
-        Row::Refused(_) => NO_COUNT,
+    match found {
+        Ok(row) => {
+            *value = row.value;
+            *words = row.words.unwrap_or(NO_COUNT);
+            hand(Ok(()), place)
+        }
+        Err(refusal) => {
+            *value = 0;
+            *words = NO_COUNT;
+            hand(Err(refusal), place)
+        }
     }
 }
 
 // Hands over what the writing of a file gives.
-fn hand_written(written: Written, length: &mut usize, place: &mut usize) -> usize
+fn hand_written(written: Result<usize, FileRefusal>, length: &mut usize, place: &mut usize) -> usize
     ensures { WrittenHanded written result length.new place.new }
 {
-    *length = written.length();
-    hand(written.answer(), place)
+    match written {
+        Ok(n) => {
+            *length = n;
+            hand(Ok(()), place)
+        }
+        Err(refusal) => {
+            *length = 0;
+            hand(Err(refusal), place)
+        }
+    }
 }
 
 // Hands over what a renumbering gives.
 fn hand_renumbered(
-    res: Renumbered,
+    renumbered: Result<Renumbered, RenumberRefusal>,
     length: &mut usize,
     changed: &mut usize,
     place: &mut usize,
 ) -> usize
-    ensures { RenumberedHanded res result length.new changed.new place.new }
+    ensures { RenumberedHanded renumbered result length.new changed.new place.new }
 {
-    *length = res.length();
-    *changed = res.changed();
-    let said = res.answer();
-    *place = said.place();
-    said.number()
+    match renumbered {
+        Ok(given) => {
+            *length = given.length;
+            *changed = given.changed;
+            *place = 0;
+            0
+        }
+        Err(refusal) => {
+            *length = 0;
+            *changed = 0;
+            *place = refusal.place();
+            refusal.number()
+        }
+    }
 }
 
 // Hands over what a search gives.
-fn hand_found(res: Found, found: &mut usize, opened: &mut usize, place: &mut usize) -> usize
-    ensures { FoundHanded res result found.new opened.new place.new }
+fn hand_found(
+    listed: Result<Found, FileRefusal>,
+    found: &mut usize,
+    opened: &mut usize,
+    place: &mut usize,
+) -> usize
+    ensures { FoundHanded listed result found.new opened.new place.new }
 {
-    *found = res.rows();
-    *opened = res.opened();
-    hand(res.answer(), place)
+    match listed {
+        Ok(given) => {
+            *found = given.rows;
+            *opened = given.opened;
+            hand(Ok(()), place)
+        }
+        Err(refusal) => {
+            *found = 0;
+            *opened = 0;
+            hand(Err(refusal), place)
+        }
+    }
 }
 
 // Hands over what the comparison of two blocks gives.
-fn hand_compared(compared: Compared, count: &mut usize, place: &mut usize) -> usize
+fn hand_compared(
+    compared: Result<usize, FileRefusal>,
+    count: &mut usize,
+    place: &mut usize,
+) -> usize
     ensures { ComparedHanded compared result count.new place.new }
 {
-    *count = compared.count();
-    hand(compared.answer(), place)
+    match compared {
+        Ok(n) => {
+            *count = n;
+            hand(Ok(()), place)
+        }
+        Err(refusal) => {
+            *count = 0;
+            hand(Err(refusal), place)
+        }
+    }
 }
 
 // Hands over an entry.

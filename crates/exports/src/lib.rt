@@ -17,12 +17,13 @@ pub mod t8;
 pub mod text;
 
 ghost use Rattle.std.specs.Prelude.{◌≡◌};
+ghost use Rattle.access.specs.Singles.{answer_of, value_of, words_of, single_number};
 ghost use Rattle.bits.specs.Bits.{untranspose_bits_of};
-ghost use Rattle.exports.specs.Handed.{Handed, ListHanded, FrontHanded};
+ghost use Rattle.exports.specs.Handed.{Handed, SingleHanded, ListHanded, FrontHanded};
 
-use access::{Afforded, Listed, Words};
+use access::{Afforded, Listed, Single, Words};
 use bits::{BitBlock, untranspose_bits};
-use places::Answer;
+use places::{Answer, Element};
 
 // Hands an answer on: its place through the lent number, and its number as the result.
 fn hand(answer: Answer, place: &mut usize) -> usize
@@ -30,6 +31,20 @@ fn hand(answer: Answer, place: &mut usize) -> usize
 {
     *place = answer.place();
     answer.number()
+}
+
+// Hands over what single access gives.
+fn hand_single<E: Element<T, LANES>, const T: usize, const LANES: usize>(
+    single: Single<E>,
+    value: &mut E,
+    words: &mut Words,
+    place: &mut usize,
+) -> usize
+    ensures { SingleHanded answer_of value_of words_of (single_number E.number single) result (E.number value.new) words.new place.new }
+{
+    *value = single.value();
+    *words = single.words();
+    hand(single.answer(), place)
 }
 
 // Hands over what access by a list gives.

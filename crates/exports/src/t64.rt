@@ -8,23 +8,22 @@ ghost use Rattle.packing.specs.Calls.{pack_takes, pack_leaves, unpack_leaves};
 ghost use Rattle.access.specs.Budgets.{within_gives, within_leaves};
 ghost use Rattle.access.specs.Calls.{single_of, list_gives, list_leaves};
 ghost use Rattle.access.specs.Counts.{words_at};
-ghost use Rattle.access.specs.t64.{answer_of, value_of, words_of};
+ghost use Rattle.access.specs.declared.Single.TheVariants.{Value, Refused};
+ghost use Rattle.access.specs.Singles.{answer_of, value_of, words_of};
 ghost use Rattle.deltas.specs.Calls.{delta_takes, delta_leaves, undelta_leaves, undelta_pack_takes, undelta_pack_leaves, for_pack_leaves, unfor_pack_leaves};
 ghost use Rattle.drawers.specs.Drawers.{drawer_answer, unpack_blocks_leaves, for_pack_blocks_leaves};
 ghost use Rattle.runs.specs.Calls.{decode_takes, decode_leaves};
 ghost use Rattle.bits.specs.Bits.{transpose_bits_of};
 ghost use Rattle.exports.specs.Handed.{Handed, SingleHanded, ListHanded, FrontHanded};
 
-use crate::{hand, hand_front, hand_list};
-use access::Words;
-use access::t64::{Single, unpack_indices, unpack_single, unpack_within, words_at};
-use bits::BitBlock;
-use bits::t64::transpose_bits;
-use deltas::t64::{delta, for_pack, undelta, undelta_pack, unfor_pack};
-use drawers::t64::{for_pack_blocks, unpack_blocks};
-use packing::t64::{pack, unpack};
-use places::t64::{transpose, untranspose};
-use runs::t64::decode;
+use crate::{hand, hand_front, hand_list, hand_single};
+use access::{Words, unpack_indices, unpack_single, unpack_within, words_at};
+use bits::{BitBlock, transpose_bits};
+use deltas::{delta, for_pack, undelta, undelta_pack, unfor_pack};
+use drawers::{for_pack_blocks, unpack_blocks};
+use packing::{pack, unpack};
+use places::{transpose, untranspose};
+use runs::decode;
 
 // Packs 1,024 values at `width` bits each; what a value has above them is cut off.
 #[unsafe(no_mangle)]
@@ -66,7 +65,7 @@ pub extern "C" fn fascjoldi_unpack_single_u64(
     place: &mut usize,
 ) -> usize
     ensures { SingleHanded answer_of value_of words_of
-        (single_of Single.Value Single.Refused t64 width packed.now index) result value.new
+        (single_of Value Refused t64 width packed.now index) result value.new
         words.new place.new }
 {
     hand_single(unpack_single(width, packed, index), value, words, place)
@@ -77,7 +76,7 @@ pub extern "C" fn fascjoldi_unpack_single_u64(
 pub extern "C" fn fascjoldi_words_at_u64(width: usize, index: usize) -> Words
     ensures { result ≡ words_at t64 width index }
 {
-    words_at(width, index)
+    words_at::<u64, 64, 16>(width, index)
 }
 
 // Unpacks the values at a list of places, and says how many packed words they stand in, counted for each; refused, the
@@ -287,14 +286,5 @@ pub extern "C" fn fascjoldi_untranspose_u64(
 pub extern "C" fn fascjoldi_transpose_bits_u64(input: &BitBlock, output: &mut BitBlock)
     ensures { output.new ≡ transpose_bits_of t64 input.now }
 {
-    *output = transpose_bits(*input);
-}
-
-// Hands over what single access gives.
-fn hand_single(single: Single, value: &mut u64, words: &mut Words, place: &mut usize) -> usize
-    ensures { SingleHanded answer_of value_of words_of single result value.new words.new place.new }
-{
-    *value = single.value();
-    *words = single.words();
-    hand(single.answer(), place)
+    *output = transpose_bits::<u64, 64, 16>(*input);
 }

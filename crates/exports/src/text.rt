@@ -6,7 +6,7 @@ ghost use Rattle.decimal.specs.Calls.{parsed_of, laid_of, lay_leaves};
 ghost use Rattle.summary.specs.Summary.{summary_of, thousandths_of, marks_of, place_in};
 ghost use Rattle.exports.specs.TextHanded.{parsed_number, parsed_value, parsed_place, ParsedHanded, SummaryHanded};
 
-use decimal::{Parsed, lay, parse};
+use decimal::{NoNumber, Parsed, lay, parse};
 use summary::{Summary, marks, of_block, place_in, thousandths};
 
 // Reads a text of decimal digits as a number; zeros at the front are taken. The result is 0 and the value is the
@@ -97,10 +97,10 @@ fn parsed_number(parsed: Parsed) -> usize
     ensures { result ≡ parsed_number parsed }
 {
     match parsed {
-        Parsed::Number(_) => 0,
-        Parsed::Empty => 1,
-        Parsed::Other(_) => 2,
-        Parsed::Large => 3,
+        Ok(_) => 0,
+        Err(NoNumber::Empty) => 1,
+        Err(NoNumber::Other(_)) => 2,
+        Err(NoNumber::Large) => 3,
     }
 }
 
@@ -108,12 +108,7 @@ fn parsed_number(parsed: Parsed) -> usize
 fn parsed_value(parsed: Parsed) -> u64
     ensures { result ≡ parsed_value parsed }
 {
-    match parsed {
-        Parsed::Number(n) => n,
-        Parsed::Empty => 0,
-        Parsed::Other(_) => 0,
-        Parsed::Large => 0,
-    }
+    parsed.unwrap_or(0)
 }
 
 // and the place of the byte that is no digit.
@@ -121,10 +116,8 @@ fn parsed_place(parsed: Parsed) -> usize
     ensures { result ≡ parsed_place parsed }
 {
     match parsed {
-        Parsed::Number(_) => 0,
-        Parsed::Empty => 0,
-        Parsed::Other(p) => p,
-        Parsed::Large => 0,
+        Err(NoNumber::Other(p)) => p,
+        _ => 0,
     }
 }
 

@@ -28,8 +28,8 @@ use Rattle.packing.specs.Calls.{pack_leaves}
 use Rattle.packing.specs.Packed.{word, part, words_number, values_number, value_at}
 use Rattle.packing.proofs.Answers.{pack-leaves}
 use Rattle.packing.proofs.Rounds.{word-pack}
-use Rattle.access.specs.declared.t8.Single.{Single}
-use Rattle.access.specs.declared.t8.Single.TheVariants.{Value, Refused}
+use Rattle.access.specs.declared.Single.{Single}
+use Rattle.access.specs.declared.Single.TheVariants.{Value, Refused}
 use Rattle.access.specs.Calls.{single, single_of}
 use Rattle.access.specs.Counts.{words_read, count_at}
 use Rattle.access.proofs.Answers.{single-good, index_in}
@@ -124,7 +124,7 @@ marked_off n k b i off =
     ]
 
 -- a mark that changes the value shows that its word is needed
-value-apart : (x y : Single) (v w m n : ℕ) → x ≡ Value v m → y ≡ Value w n → x ≡ y → v ≡ w
+value-apart : (x y : Single ℕ) (v w m n : ℕ) → x ≡ Value v m → y ≡ Value w n → x ≡ y → v ≡ w
 value-apart x y v w m n p q e = cc
 
 is_needed : (t w p k b : ℕ) → w ≤ t → p < 1024 → b < 2 ^ t

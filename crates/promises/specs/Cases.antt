@@ -10,7 +10,7 @@ use Rattle.places.specs.Sizes.{t8, t16, t32, t64, lanes}
 use Rattle.places.specs.Takes.{answer_for}
 use Rattle.places.specs.Transposes.{transpose_leaves, untranspose_leaves}
 use Rattle.packing.specs.Calls.{pack_leaves}
-use Rattle.access.specs.declared.t8.Single.TheVariants.{Value, Refused}
+use Rattle.access.specs.declared.Single.TheVariants.{Value, Refused}
 use Rattle.access.specs.Calls.{single_of}
 use Rattle.deltas.specs.Calls.{delta_leaves, for_pack_leaves, unfor_pack_leaves}
 use Rattle.runs.specs.Calls.{decode_takes, decode_leaves}
@@ -55,7 +55,7 @@ SameAt [] x y = Unit
 SameAt (k ∷ ks) x y = (get_or x k 0 ≡ get_or y k 0) × SameAt ks x y
 
 -- Single access at place p needs the word at k: there are two packed blocks that differ in that word alone and give
--- different answers. The answers are those of t 8, since the one case that asks for it is at that size.
+-- different answers.
 pub record Needed (t w p k : ℕ) : Type 0 where
   pub one : List ℕ
   pub other : List ℕ
@@ -103,7 +103,7 @@ Holds (packs t w l rows words) =
     (values packed : List ℕ) → length values ≡ 1024 → length packed ≡ lanes t * w
     → Rows values l rows → Holding (pack_leaves t w values packed) words
 -- Whatever the other words are, single access gives the value and the number of its words. What it gives depends on no
--- other words than those named, and on each of them. The one such case has t 8, so the answer is of that size's enum.
+-- other words than those named, and on each of them.
 Holds (reads t w words p value from) =
     ((packed : List ℕ) → length packed ≡ lanes t * w → Holding packed words → single_of Value Refused t w packed p ≡ Value value (length from))
     × ((x y : List ℕ) → length x ≡ lanes t * w → length y ≡ lanes t * w → SameAt from x y

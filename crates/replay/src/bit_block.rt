@@ -26,10 +26,10 @@ fn moved(head: Head, block: [u64; 16]) -> [u64; 16] {
     }
     let t = head.t;
     match t {
-        8 => bits::t8::transpose_bits(block),
-        16 => bits::t16::transpose_bits(block),
-        32 => bits::t32::transpose_bits(block),
-        _ => bits::t64::transpose_bits(block),
+        8 => bits::transpose_bits::<u8, 8, 128>(block),
+        16 => bits::transpose_bits::<u16, 16, 64>(block),
+        32 => bits::transpose_bits::<u32, 32, 32>(block),
+        _ => bits::transpose_bits::<u64, 64, 16>(block),
     }
 }
 
@@ -38,19 +38,15 @@ fn bits_at_front(a: &Wide) -> [u64; 16]
     ensures { result ≡ tab 16 (λ i. slice_index a.now i) }
 {
     let mut x = [0u64; 16];
-    let mut i = 0;
-    while i < 16 {
+    for i in 0..16 {
         x[i] = a[i];
-        i += 1;
     }
     x
 }
 
 // Writes a bit block to the front of a buffer.
 fn put_bits(x: [u64; 16], c: &mut Wide) {
-    let mut i = 0;
-    while i < 16 {
+    for i in 0..16 {
         c[i] = x[i];
-        i += 1;
     }
 }

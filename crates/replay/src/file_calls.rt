@@ -6,13 +6,12 @@ ghost use Rattle.std.specs.Prelude.{◌≡◌};
 ghost use Rattle.contents.specs.Answers.{number_of, place_of};
 ghost use Rattle.stream.specs.declared.Reply.TheVariants.{Given};
 
-use access::{NO_COUNT, Words};
-use contents::FileAnswer;
+use access::NO_COUNT;
+use contents::{FileAnswer, FileRefusal, number_of, place_of};
 use files::Row;
-use renumber::Renumbered;
+use renumber::{RenumberRefusal, Renumbered};
 use search::Found;
 use stream::{Head, Reply};
-use writer::Written;
 
 // What a call takes: for each buffer the bytes of an element, 0 where it takes no such buffer, and whether it takes
 // an index.
@@ -161,8 +160,8 @@ fn reply(answer: FileAnswer, value: u64) -> Reply
     ensures { result ≡ Given (number_of answer) (place_of answer) value 0 0 }
 {
     Reply::Given {
-        number: answer.number() as u64,
-        place: answer.place() as u64,
+        number: number_of(answer) as u64,
+        place: place_of(answer) as u64,
         value,
         reference: 0,
         index: 0,
@@ -171,37 +170,47 @@ fn reply(answer: FileAnswer, value: u64) -> Reply
 
 // Of a refused lookup the value is 0. The count of words is given back as the reference, and there 2^64 - 1 says that
 // there is none.
-fn of_row(row: Row) -> Reply {
-    reply(row.answer(), row.value()).with_reference(words_of(row))
-}
-
-fn words_of(row: Row) -> Words {
-    match row {
-        Row::Counted(_, n) => n,
-        Row::Uncounted(_) => NO_COUNT,
-        Row::Refused(_) => NO_COUNT,
+fn of_row(found: Result<Row, FileRefusal>) -> Reply {
+    match found {
+        Ok(row) => reply(Ok(()), row.value).with_reference(row.words.unwrap_or(NO_COUNT)),
+        Err(refusal) => reply(Err(refusal), 0).with_reference(NO_COUNT),
     }
 }
 
 // Of a refused search no row is listed.
-fn of_found(found: Found) -> Reply {
-    reply(found.answer(), found.rows() as u64)
+fn of_found(listed: Result<Found, FileRefusal>) -> Reply {
+    match listed {
+        Ok(found) => reply(Ok(()), found.rows as u64),
+        Err(refusal) => reply(Err(refusal), 0),
+    }
 }
 
 // Of a refused write the length is 0.
-fn of_written(written: Written) -> Reply {
-    reply(written.answer(), written.length() as u64)
+fn of_written(written: Result<usize, FileRefusal>) -> Reply {
+    match written {
+        Ok(length) => reply(Ok(()), length as u64),
+        Err(refusal) => reply(Err(refusal), 0),
+    }
 }
 
 // A renumbering gives back the length times 2^32 and the count of rows that changed in one value; of a refused one both
 // are 0. What it takes as the reference and the index stays.
-fn of_renumbered(head: Head, renumbered: Renumbered) -> Reply {
-    let answer = renumbered.answer();
-    let length = renumbered.length() as u64;
+fn of_renumbered(head: Head, renumbered: Result<Renumbered, RenumberRefusal>) -> Reply {
+    match renumbered {
+        Ok(given) => {
+            let length = given.length as u64;
+            stayed(head, 0, 0, (length << 32) | (given.changed as u64))
+        }
+        Err(refusal) => stayed(head, refusal.number(), refusal.place(), 0),
+    }
+}
+
+// The reply of a call whose reference and index stay.
+fn stayed(head: Head, number: usize, place: usize, value: u64) -> Reply {
     Reply::Given {
-        number: answer.number() as u64,
-        place: answer.place() as u64,
-        value: (length << 32) | (renumbered.changed() as u64),
+        number: number as u64,
+        place: place as u64,
+        value,
         reference: head.reference,
         index: head.index,
     }

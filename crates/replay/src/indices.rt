@@ -10,10 +10,8 @@ pub fn indexed(x: &Wide) -> [usize; 4096]
     ensures { result ≡ tab 4096 (λ i. slice_index x.now i) }
 {
     let mut y = [0usize; 4096];
-    let mut i = 0;
-    while i < 4096 {
+    for i in 0..4096 {
         y[i] = index_of(x[i]);
-        i += 1;
     }
     y
 }

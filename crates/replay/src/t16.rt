@@ -11,8 +11,8 @@ ghost use Rattle.io.specs.Counts.{IsPrefixLen};
 
 use crate::block_cases::Wide;
 use crate::outcome::{of_front, of_list, of_plain};
-use access::t16::Single;
-use stream::narrow::{narrow_u16, widen_u16};
+use access::Single;
+use stream::elements::Streamed;
 use stream::{Head, Reply};
 
 // The call that the head names, on the buffers a, b and c as elements. The other lists are the same at every size.
@@ -53,36 +53,36 @@ fn reply(
 ) -> Reply {
     let op = head.op;
     let width = head.width as usize;
-    let reference = narrow_u16(head.reference);
+    let reference: u16 = Streamed::narrow(head.reference);
     match op {
-        0 => Reply::of(packing::t16::pack(width, input, out)),
-        1 => Reply::of(packing::t16::unpack(width, input, out)),
-        2 => single(access::t16::unpack_single(width, input, head.index as usize)),
-        3 => of_list(access::t16::unpack_indices(width, input, indices, out)),
-        4 => Reply::of(deltas::t16::delta(input, base, out)),
-        5 => Reply::of(deltas::t16::undelta(input, base, out)),
-        6 => Reply::of(deltas::t16::undelta_pack(width, input, base, out)),
-        7 => Reply::of(deltas::t16::for_pack(width, input, reference, out)),
-        8 => Reply::of(deltas::t16::unfor_pack(width, input, reference, out)),
-        10 => Reply::of(runs::t16::decode(input, entries, out)),
-        11 => Reply::of(places::t16::transpose(input, out)),
-        12 => Reply::of(places::t16::untranspose(input, out)),
-        23 => of_front(access::t16::unpack_within(width, input, indices, head.reference, out)),
-        27 => Reply::of(plain::t16::pack(width, input, out)),
-        28 => Reply::of(plain::t16::unpack(width, input, out)),
-        29 => plain_single(plain::t16::unpack_single(width, input, head.index as usize)),
+        0 => Reply::of(packing::pack(width, input, out)),
+        1 => Reply::of(packing::unpack(width, input, out)),
+        2 => single(access::unpack_single(width, input, head.index as usize)),
+        3 => of_list(access::unpack_indices(width, input, indices, out)),
+        4 => Reply::of(deltas::delta(input, base, out)),
+        5 => Reply::of(deltas::undelta(input, base, out)),
+        6 => Reply::of(deltas::undelta_pack(width, input, base, out)),
+        7 => Reply::of(deltas::for_pack(width, input, reference, out)),
+        8 => Reply::of(deltas::unfor_pack(width, input, reference, out)),
+        10 => Reply::of(runs::decode(input, entries, out)),
+        11 => Reply::of(places::transpose(input, out)),
+        12 => Reply::of(places::untranspose(input, out)),
+        23 => of_front(access::unpack_within(width, input, indices, head.reference, out)),
+        27 => Reply::of(plain::pack(width, input, out)),
+        28 => Reply::of(plain::unpack(width, input, out)),
+        29 => plain_single(plain::unpack_single(width, input, head.index as usize)),
         _ => Reply::Unknown,
     }
 }
 
 // Of a refused single access the value is 0. The count of words is given back as the reference.
-fn single(single: Single) -> Reply {
-    Reply::with_value(single.answer(), widen_u16(single.value())).with_reference(single.words())
+fn single(single: Single<u16>) -> Reply {
+    Reply::with_value(single.answer(), single.value().widen()).with_reference(single.words())
 }
 
 // The same of the plain engine's.
-fn plain_single(single: plain::t16::Single) -> Reply {
-    of_plain(single.answer(), widen_u16(single.value()), single.words())
+fn plain_single(single: plain::Single<u16>) -> Reply {
+    of_plain(single.answer(), single.value().widen(), single.words())
 }
 
 // A count of the head, as a count of x's elements. The head's counts are within every buffer. The contract says so of
@@ -99,10 +99,8 @@ pub fn narrowed(x: &Wide) -> [u16; 4096]
     ensures { result ≡ tab 4096 (λ i. slice_index x.now i % 2 ^ t16) }
 {
     let mut y = [0u16; 4096];
-    let mut i = 0;
-    while i < 4096 {
-        y[i] = narrow_u16(x[i]);
-        i += 1;
+    for i in 0..4096 {
+        y[i] = u16::narrow(x[i]);
     }
     y
 }
@@ -112,10 +110,8 @@ pub fn widened(x: &[u16; 4096]) -> Wide
     ensures { result ≡ tab 4096 (λ i. slice_index x.now i) }
 {
     let mut y: Wide = [0; 4096];
-    let mut i = 0;
-    while i < 4096 {
-        y[i] = widen_u16(x[i]);
-        i += 1;
+    for i in 0..4096 {
+        y[i] = x[i].widen();
     }
     y
 }

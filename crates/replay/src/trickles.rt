@@ -5,7 +5,7 @@ ghost use Rattle.std.specs.Prelude.{◌≤◌};
 use crate::file_cases::judge;
 use crate::wire::{read_bytes, read_eights, read_words};
 use crate::{t8, t64};
-use stream::elements::element_u8;
+use stream::elements::Streamed;
 use stream::{Head, Reply, Step};
 use trickle::{Fed, Started, State, TrickleAnswer, ask, feed, start};
 
@@ -105,10 +105,8 @@ fn by_hand(head: Head) -> bool {
 // The first bytes as the room of a state.
 fn room_of(bytes: &[u8]) -> [u8; 8192] {
     let mut room = [0u8; 8192];
-    let mut i = 0;
-    while i < 8192 {
-        room[i] = element_u8(bytes, i);
-        i += 1;
+    for i in 0..8192 {
+        room[i] = Streamed::read(bytes, i);
     }
     room
 }
@@ -127,15 +125,13 @@ fn feed_all(state: State, bytes: &[u8], from: usize, lengths: &[u64]) -> Fed {
     let mut now = state;
     let mut taken = 0;
     let mut at = end_of(0, from, bytes.len());
-    let mut i = 0;
-    while i < lengths.len() {
+    for i in 0..lengths.len() {
         let end = end_of(at, lengths[i] as usize, bytes.len());
         let fed = feed(now, &bytes[at..end]);
         let next = fed.state;
         now = next;
         taken = std::num::wrapping_add_usize(taken, fed.taken);
         at = end;
-        i += 1;
     }
     Fed { taken, state: now }
 }

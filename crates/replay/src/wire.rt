@@ -7,7 +7,7 @@ ghost use Rattle.replay.specs.Elements.{is_size};
 
 use crate::block_cases::Wide;
 use little::{pair, quad, word};
-use stream::narrow::{widen_u8, widen_u16, widen_u32};
+use stream::elements::Streamed;
 use stream::{Head, head_of};
 
 // The number of standard input among the open files.
@@ -73,10 +73,8 @@ fn numbers(bytes: &[u8; 32768], n: usize, size: usize, out: &mut [u64])
     ensures { out.new
         ≡ over 0 (tab n (λ k. little bytes.now (k * size) size)) out.old }
 {
-    let mut i = 0;
-    while i < n {
+    for i in 0..n {
         out[i] = element(bytes, i * size, size);
-        i += 1;
     }
 }
 
@@ -87,9 +85,9 @@ fn element(bytes: &[u8], at: usize, size: usize) -> u64
     ensures { result ≡ little bytes.now at size }
 {
     match size {
-        1 => widen_u8(bytes[at]),
-        2 => widen_u16(pair(bytes, at)),
-        4 => widen_u32(quad(bytes, at)),
+        1 => Streamed::widen(bytes[at]),
+        2 => pair(bytes, at).widen(),
+        4 => quad(bytes, at).widen(),
         _ => word(bytes, at),
     }
 }

@@ -4,7 +4,6 @@
 #![tactic(auto)]
 
 pub mod elements;
-pub mod narrow;
 
 ghost use Rattle.std.specs.Prelude.{◌≡◌, ◌*◌, ◌<◌, ◌≤◌, true, length};
 ghost use Rattle.places.specs.Answers.{number_of, place_of};
@@ -191,12 +190,10 @@ pub fn same_numbers(x: &[u64], y: &[u64], n: usize) -> bool
     if y.len() < n {
         return false;
     }
-    let mut i = 0;
-    while i < n {
+    for i in 0..n {
         if x[i] != y[i] {
             return false;
         }
-        i += 1;
     }
     true
 }
@@ -215,12 +212,10 @@ pub fn same_words(words: &[u64], bytes: &[u8], n: usize) -> bool
     if bytes.len() / 8 < n {
         return false;
     }
-    let mut i = 0;
-    while i < n {
+    for i in 0..n {
         if words[i] != word(bytes, i * 8) {
             return false;
         }
-        i += 1;
     }
     true
 }

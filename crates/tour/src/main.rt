@@ -4,9 +4,8 @@
 // out by hand from the rules (docs/RULES.md).
 #![tactic(auto)]
 
-use access::t8::Single;
-use contents::FileAnswer;
-use files::Row;
+use access::Single;
+use contents::{FileAnswer, number_of, place_of};
 use places::Answer;
 
 // The number of standard output among the open files.
@@ -15,7 +14,7 @@ const STDOUT: i32 = 1;
 fn main() {
     let rows = each_its_row();
     let mut packed = [0u8; 384];
-    let answer = packing::t8::pack(3, &rows, &mut packed);
+    let answer = packing::pack(3, &rows, &mut packed);
     show_block(answer, &packed);
     show_lookup(&packed);
     show_list(&packed);
@@ -55,7 +54,7 @@ fn show_lookup(packed: &[u8; 384]) {
 }
 
 fn look_up(width: usize, packed: &[u8; 384]) {
-    let single = access::t8::unpack_single(width, packed, 256);
+    let single = access::unpack_single(width, packed, 256);
     match single {
         Single::Value(x, n) => {
             line(b"  ", wide(x), b" at ", 256);
@@ -68,7 +67,7 @@ fn look_up(width: usize, packed: &[u8; 384]) {
 // A list of places of which the block does not have the third.
 fn show_list(packed: &[u8; 384]) {
     let mut output = [77u8; 3];
-    let answer = access::t8::unpack_indices(3, packed, &[0, 256, 1024], &mut output).answer();
+    let answer = access::unpack_indices(3, packed, &[0, 256, 1024], &mut output).answer();
     say(b"\nA stub asks for a list of places: 0, 256 and 1024. A block ends at 1023,\n");
     say(b"so the list is refused, and the place is that of the bad entry:\n");
     show_answer(answer);
@@ -81,7 +80,7 @@ fn show_list(packed: &[u8; 384]) {
 // Two places under a budget of packed words that is enough for one of them.
 fn show_budget(packed: &[u8; 384]) {
     let mut output = [77u8; 2];
-    let found = access::t8::unpack_within(3, packed, &[0, 256], 2, &mut output);
+    let found = access::unpack_within(3, packed, &[0, 256], 2, &mut output);
     say(b"\nA stub asks for the places 0 and 256 with a budget of 2 packed words. The first\n");
     say(b"stands in one word and the second in two, so only the first is answered:\n");
     line(b"  lookups answered: ", found.answered() as u64, b" of ", 2);
@@ -122,8 +121,8 @@ fn show_widths() {
 fn packed_back(width: usize, x: u8, packed: &mut [u8]) -> u8 {
     let values = [x; 1024];
     let mut back = [0u8; 1024];
-    packing::t8::pack(width, &values, packed);
-    packing::t8::unpack(width, packed, &mut back);
+    packing::pack(width, &values, packed);
+    packing::unpack(width, packed, &mut back);
     back[0]
 }
 
@@ -131,8 +130,8 @@ fn packed_back(width: usize, x: u8, packed: &mut [u8]) -> u8 {
 fn framed_back(width: usize, x: u8, reference: u8, packed: &mut [u8]) -> u8 {
     let values = [x; 1024];
     let mut back = [0u8; 1024];
-    deltas::t8::for_pack(width, &values, reference, packed);
-    deltas::t8::unfor_pack(width, packed, reference, &mut back);
+    deltas::for_pack(width, &values, reference, packed);
+    deltas::unfor_pack(width, packed, reference, &mut back);
     back[0]
 }
 
@@ -140,7 +139,7 @@ fn framed_back(width: usize, x: u8, reference: u8, packed: &mut [u8]) -> u8 {
 fn show_dates() {
     let days = working_days();
     let mut turned = [0u16; 1024];
-    places::t16::transpose(&days, &mut turned);
+    places::transpose(&days, &mut turned);
     say(b"\nA block of 1024 dates has the working days from day 20000 on: each is 1 or 3 days\n");
     say(b"after the one before. Delta stores each row of a lane minus the row before it.\n");
     say(b"Of lane 0 these are rows 1, 5 and 8, as the block stands and transposed first:\n");
@@ -168,7 +167,7 @@ fn working_days() -> [u16; 1024] {
 // What delta stores of the dates. The base is zeros, so row 0 stores its dates as they are.
 fn differences(dates: &[u16; 1024]) -> [u16; 1024] {
     let mut numbers = [0u16; 1024];
-    deltas::t16::delta(dates, &[0u16; 64], &mut numbers);
+    deltas::delta(dates, &[0u16; 64], &mut numbers);
     numbers
 }
 
@@ -181,7 +180,7 @@ fn show_file() {
     let written = writer::write(&values, &mut file);
     say(b"\nA column of 1024 path numbers, sevens but for a 9 in row 3, is written as a\n");
     say(b"file. This is its length in bytes, and then the number of the check:\n");
-    line(b"  ", written.length() as u64, b" bytes of ", 292);
+    line(b"  ", written.unwrap_or(0) as u64, b" bytes of ", 292);
     show_file_answer(files::check(&file));
     say(b"A stub asks the file for row 3, and then for row 1024, which there is not:\n");
     show_row(&file, 3);
@@ -195,27 +194,25 @@ fn sevens() -> [u64; 1024] {
 }
 
 fn show_row(file: &[u8; 292], row: usize) {
-    let found = files::row_at(file, row);
-    match found {
-        Row::Counted(x, _) => line(b"  ", x, b" in row ", row as u64),
-        Row::Uncounted(x) => line(b"  ", x, b" in row ", row as u64),
-        Row::Refused(answer) => show_file_answer(answer),
+    match files::row_at(file, row) {
+        Ok(found) => line(b"  ", found.value, b" in row ", row as u64),
+        Err(refusal) => show_file_answer(Err(refusal)),
     }
 }
 
 fn show_short(values: &[u64; 1024]) {
     let mut room = [77u8; 275];
     let written = writer::write(values, &mut room);
-    show_file_answer(written.answer());
+    show_file_answer(written.and(Ok(())));
     line(b"  ", wide(room[0]), b" at ", 0);
 }
 
 fn show_file_answer(answer: FileAnswer) {
     line(
         b"  number ",
-        answer.number() as u64,
+        number_of(answer) as u64,
         b", place ",
-        answer.place() as u64,
+        place_of(answer) as u64,
     );
 }
 

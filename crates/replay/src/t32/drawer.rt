@@ -8,8 +8,7 @@ ghost use Rattle.stream.specs.Expected.{Agree, AsExpected};
 
 use crate::t32::within;
 use crate::wire::read_bytes;
-use stream::elements::element_u32;
-use stream::narrow::narrow_u32;
+use stream::elements::Streamed;
 use stream::{Head, Reply, Step};
 
 const T: usize = 32;
@@ -69,10 +68,8 @@ fn read(n: usize, bytes: &mut [u8], out: &mut [u32]) -> bool {
 }
 
 fn fill(bytes: &[u8], out: &mut [u32]) {
-    let mut i = 0;
-    while i < out.len() {
-        out[i] = element_u32(bytes, i * SIZE);
-        i += 1;
+    for i in 0..out.len() {
+        out[i] = u32::read(bytes, i * SIZE);
     }
 }
 
@@ -88,11 +85,11 @@ fn call(head: Head, a: &[u32], c: &mut [u32]) -> Reply {
     let op = head.op;
     let width = head.width as usize;
     let blocks = head.index as usize;
-    let reference = narrow_u32(head.reference);
+    let reference: u32 = Streamed::narrow(head.reference);
     match op {
-        24 => Reply::of(drawers::t32::unpack_blocks(width, blocks, a, c)),
+        24 => Reply::of(drawers::unpack_blocks(width, blocks, a, c)),
         25 => {
-            let answer = drawers::t32::for_pack_blocks(width, blocks, a, reference, c);
+            let answer = drawers::for_pack_blocks(width, blocks, a, reference, c);
             Reply::of(answer).with_reference(head.reference)
         }
         _ => Reply::Unknown,
@@ -123,12 +120,10 @@ fn same(elements: &[u32], bytes: &[u8], n: usize) -> bool
     if bytes.len() / SIZE < n {
         return false;
     }
-    let mut i = 0;
-    while i < n {
-        if elements[i] != element_u32(bytes, i * SIZE) {
+    for i in 0..n {
+        if elements[i] != u32::read(bytes, i * SIZE) {
             return false;
         }
-        i += 1;
     }
     true
 }

@@ -7,8 +7,7 @@ ghost use Rattle.stream.specs.Expected.{Agree, AsExpected};
 
 use crate::t64::within;
 use crate::wire::read_bytes;
-use stream::elements::element_u64;
-use stream::narrow::narrow_u64;
+use stream::elements::Streamed;
 use stream::{Head, Reply, Step};
 
 const T: usize = 64;
@@ -68,10 +67,8 @@ fn read(n: usize, bytes: &mut [u8], out: &mut [u64]) -> bool {
 }
 
 fn fill(bytes: &[u8], out: &mut [u64]) {
-    let mut i = 0;
-    while i < out.len() {
-        out[i] = element_u64(bytes, i * SIZE);
-        i += 1;
+    for i in 0..out.len() {
+        out[i] = u64::read(bytes, i * SIZE);
     }
 }
 
@@ -87,11 +84,11 @@ fn call(head: Head, a: &[u64], c: &mut [u64]) -> Reply {
     let op = head.op;
     let width = head.width as usize;
     let blocks = head.index as usize;
-    let reference = narrow_u64(head.reference);
+    let reference: u64 = Streamed::narrow(head.reference);
     match op {
-        24 => Reply::of(drawers::t64::unpack_blocks(width, blocks, a, c)),
+        24 => Reply::of(drawers::unpack_blocks(width, blocks, a, c)),
         25 => {
-            let answer = drawers::t64::for_pack_blocks(width, blocks, a, reference, c);
+            let answer = drawers::for_pack_blocks(width, blocks, a, reference, c);
             Reply::of(answer).with_reference(head.reference)
         }
         _ => Reply::Unknown,
@@ -122,12 +119,10 @@ fn same(elements: &[u64], bytes: &[u8], n: usize) -> bool
     if bytes.len() / SIZE < n {
         return false;
     }
-    let mut i = 0;
-    while i < n {
-        if elements[i] != element_u64(bytes, i * SIZE) {
+    for i in 0..n {
+        if elements[i] != u64::read(bytes, i * SIZE) {
             return false;
         }
-        i += 1;
     }
     true
 }

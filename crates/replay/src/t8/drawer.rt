@@ -8,8 +8,7 @@ ghost use Rattle.stream.specs.Expected.{Agree, AsExpected};
 
 use crate::t8::within;
 use crate::wire::read_bytes;
-use stream::elements::element_u8;
-use stream::narrow::narrow_u8;
+use stream::elements::Streamed;
 use stream::{Head, Reply, Step};
 
 const T: usize = 8;
@@ -69,10 +68,8 @@ fn read(n: usize, bytes: &mut [u8], out: &mut [u8]) -> bool {
 }
 
 fn fill(bytes: &[u8], out: &mut [u8]) {
-    let mut i = 0;
-    while i < out.len() {
-        out[i] = element_u8(bytes, i * SIZE);
-        i += 1;
+    for i in 0..out.len() {
+        out[i] = u8::read(bytes, i * SIZE);
     }
 }
 
@@ -88,11 +85,11 @@ fn call(head: Head, a: &[u8], c: &mut [u8]) -> Reply {
     let op = head.op;
     let width = head.width as usize;
     let blocks = head.index as usize;
-    let reference = narrow_u8(head.reference);
+    let reference: u8 = Streamed::narrow(head.reference);
     match op {
-        24 => Reply::of(drawers::t8::unpack_blocks(width, blocks, a, c)),
+        24 => Reply::of(drawers::unpack_blocks(width, blocks, a, c)),
         25 => {
-            let answer = drawers::t8::for_pack_blocks(width, blocks, a, reference, c);
+            let answer = drawers::for_pack_blocks(width, blocks, a, reference, c);
             Reply::of(answer).with_reference(head.reference)
         }
         _ => Reply::Unknown,
@@ -123,12 +120,10 @@ fn same(elements: &[u8], bytes: &[u8], n: usize) -> bool
     if bytes.len() / SIZE < n {
         return false;
     }
-    let mut i = 0;
-    while i < n {
-        if elements[i] != element_u8(bytes, i * SIZE) {
+    for i in 0..n {
+        if elements[i] != u8::read(bytes, i * SIZE) {
             return false;
         }
-        i += 1;
     }
     true
 }

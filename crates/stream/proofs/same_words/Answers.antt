@@ -1,6 +1,6 @@
 -- `stream::same_words` meets its contract. The loop's invariant: the first i numbers are those of the bytes.
 -- Assumes nothing.
-use Rattle.std.proofs.Common.{◌≡◌, ◌*◌, sym, ◌∙◌, zero-le, arith, below_none, below_more}
+use Rattle.std.proofs.Common.{◌≡◌, ◌*◌, sym, ◌∙◌, arith, below_none, below_more}
 use Rattle.little.specs.Little.{little}
 use Rattle.little.proofs.Little.{little-within}
 use Rattle.stream.proofs.Compared.{number_at, no, yes}
@@ -8,7 +8,7 @@ use Rattle.stream.proofs.same_words.Goals as goal
 use Rattle.stream.proofs.same_words.Goals.{After-word}
 
 pub loop-i-init : goal.loop-i-init
-loop-i-init c = (zero-le, below_none _)
+loop-i-init c = below_none _
 
 -- the number that a turn reads from the bytes
 read : (c : After-word)
@@ -21,9 +21,9 @@ returns-then-words-i c =
 
 pub loop-i-preserved : goal.loop-i-preserved
 loop-i-preserved c =
-    (omega arith, below_more _ _ c.loop-i.invariant.1 (c.if-words-i.false ∙ read (goal.at.loop-i-preserved c).After-word))
+    below_more _ _ c.loop-i.invariant (c.if-words-i.false ∙ read (goal.at.loop-i-preserved c).After-word)
 
 pub returns : goal.returns
 returns c =
     let e : c.loop-i.i ≡ c.args.n = omega arith in
-    let both = yes (omega arith) (omega arith) (λ k b. c.loop-i.invariant.1 k (omega arith) ∙ sym (number_at 8 _ _ k b)) in record { n_in_bounds = both.0; value = both.1 }
+    let both = yes (omega arith) (omega arith) (λ k b. c.loop-i.invariant k (omega arith) ∙ sym (number_at 8 _ _ k b)) in record { n_in_bounds = both.0; value = both.1 }

@@ -1,9 +1,7 @@
 -- Written by tools/sizes from the text of size 64: edit that one, and run tools/sizes.
--- `fascjoldi_unpack_single_u16` gives and leaves what `unpack_single` does.
+-- `exports::t16::fascjoldi_unpack_single_u16` meets its contract: what is handed over is what the call gives.
 -- Assumes nothing.
-use borrow.Author.Rules.{rules}
-use Rattle.exports.proofs.Handed.{single_on}
 use Rattle.exports.proofs.t16.fascjoldi_unpack_single_u16.Goals as goal
 
 pub returns : goal.returns
-returns c = search (rules, single_on)
+returns c = rw c.unpack_single.ensures at c.hand_single.ensures

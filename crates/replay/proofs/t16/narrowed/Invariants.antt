@@ -1,14 +1,11 @@
 -- Written by tools/sizes from the text of size 64: edit that one, and run tools/sizes.
 -- `replay::t16::narrowed` meets its contract. The loop's invariant: the first i elements are written.
 -- Assumes nothing.
-use Rattle.std.proofs.Common.{◌≡◌, ◌-◌, ◌%◌, ◌^◌, ◌≤◌, length, get_or}
+use Rattle.std.proofs.Common.{◌≡◌, ◌%◌, ◌^◌, length, get_or}
 use Rattle.lists.proofs.Tabs.{Written}
 use Rattle.places.specs.Sizes.{t16}
 use Rattle.replay.proofs.t16.narrowed.Given as goal
 
 abbrev pub invariant-loop-i : goal.invariant-loop-i
 invariant-loop-i l =
-    (l.i ≤ 4096) × (length l.initial.y ≡ 4096) × Written 0 l.i (λ k. get_or l.x k 0 % 2 ^ t16) l.initial.y l.y
-
-abbrev pub decreases-loop-i : goal.decreases-loop-i
-decreases-loop-i l = 4096 - l.i
+    (length l.initial.y ≡ 4096) × Written 0 l.i (λ k. get_or l.x k 0 % 2 ^ t16) l.initial.y l.y

@@ -10,21 +10,21 @@ pub returns-in-1 : goal.returns-in-1
 returns-in-1 c =
     let args = c.args in
     let l = args.bytes.now in
-    c.widen_u8.ensures ∙ little-one l args.at ∙ ap (little l args.at) (sym c.in-1.is)
+    c.widen.ensures ∙ little-one l args.at ∙ ap (little l args.at) (sym c.in-1.is)
 
 pub returns-in-2 : goal.returns-in-2
 returns-in-2 c =
     let args = c.args in
     let l = args.bytes.now in
     let e : args.size ≡ 2 = c.in-2.is in
-    c.widen_u16.ensures ∙ c.pair.ensures ∙ little-within l args.at 2 (omega arith) ∙ ap (little l args.at) (sym e)
+    c.widen-in-2.ensures ∙ c.pair.ensures ∙ little-within l args.at 2 (omega arith) ∙ ap (little l args.at) (sym e)
 
 pub returns-in-4 : goal.returns-in-4
 returns-in-4 c =
     let args = c.args in
     let l = args.bytes.now in
     let e : args.size ≡ 4 = c.in-4.is in
-    c.widen_u32.ensures ∙ c.quad.ensures ∙ little-within l args.at 4 (omega arith) ∙ ap (little l args.at) (sym e)
+    c.widen-in-4.ensures ∙ c.quad.ensures ∙ little-within l args.at 4 (omega arith) ∙ ap (little l args.at) (sym e)
 
 pub returns-in_default : goal.returns-in_default
 returns-in_default c =

