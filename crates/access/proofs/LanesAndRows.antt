@@ -1,9 +1,11 @@
 -- The value of a place's row in its lane is the value at the place. Where the words of a lane stand. And the arithmetic
 -- of the row at the two element sizes that have no tables.
 -- Assumes nothing.
-use Rattle.std.proofs.Common.{◌≡◌, ℕ, ◌+◌, ◌*◌, ◌/◌, ◌%◌, ◌<◌, List, get_or, arith, sym, ap, ap₂, subst, ◌∙◌, mod-eq_of_lt}
+use mathlib.Core.Logic.{◌⊎◌, ⊎_elim}
+use mathlib.Core.Path.{subst⁻¹}
+use Rattle.std.proofs.Common.{◌≡◌, ℕ, ◌+◌, ◌*◌, ◌/◌, ◌%◌, ◌<◌, List, get_or, arith, refl, inl, inr, sym, ap, ap₂, subst, ◌∙◌, mod-eq_of_lt}
 use Rattle.lists.specs.Numbers.{digit}
-use Rattle.lists.proofs.Every.{same}
+use Rattle.lists.proofs.Every.{Same, same}
 use Rattle.places.specs.Places.{order, lane, row}
 use Rattle.places.specs.Sizes.{t8, t16, Size, lanes}
 use Rattle.places.proofs.Places.{lane-lt, row_lt}
@@ -44,11 +46,26 @@ module _ (t : ℕ) {lane_count : ℕ} (e : lanes t ≡ lane_count) (packed : Lis
 
 -- ---- the element sizes that have no tables
 
--- Of the order list no more than its entries 0 and 4 are asked at T 16, which are 0 and 1, and its entry 0 at T 8. So it
--- is left out there.
-pub row-t16 : (p : ℕ) → p < 1024 → p / 64 % 2 * 8 + p / 128 ≡ row t16 p
+abbrev pub Small : ℕ → Type 0
+Small t = (t ≡ t8) ⊎ (t ≡ t16)
+
+pub small-t8 : Small t8
+small-t8 = inl refl
+
+pub small-t16 : Small t16
+small-t16 = inr refl
+
+-- Of the order list no more than its entries 0 and 4 are asked there, which are 0 and 1, so it is left out.
+pub row_by_eights : {t : ℕ} → Small t → (p : ℕ) → p < 1024 → p / lanes t % (t / 8) * 8 + p / 128 ≡ row t p
 unfolding order lane row
-row-t16 = same 1024 (λ p. p / 64 % 2 * 8 + p / 128) (row t16) tt
+row_by_eights {t} s p h =
+    let test : ℕ → Type 0 = λ t. Same 1024 (λ p. p / lanes t % (t / 8) * 8 + p / 128) (row t) in
+    same 1024 (λ p. p / lanes t % (t / 8) * 8 + p / 128) (row t)
+    (⊎_elim (λ e. subst⁻¹ test e tt) (λ e. subst⁻¹ test e tt) s) p h
+
+-- In the numbers of T 16, and in those of T 8, where there are no second eight rows:
+pub row-t16 : (p : ℕ) → p < 1024 → p / 64 % 2 * 8 + p / 128 ≡ row t16 p
+row-t16 = row_by_eights small-t16
 
 pub row-t8 : (p : ℕ) → p < 1024 → p / 128 ≡ row t8 p
 unfolding order lane row

@@ -2,9 +2,11 @@
 //
 //     bit b of row r of lane l is bit (r · W + b) mod T of word (r · W + b) / T of that lane.
 //
-// It is slow, and it is there to be believed: it leans on no code of packing or access, and has no rule of its own for
-// any width.
+// It is slow, and it is there to be believed: it depends on no code of packing or access, works on bits by operations of
+// its own, and has no rule of its own for any width.
 #![tactic(auto)]
+
+mod bitwise;
 
 ghost use Rattle.std.specs.Prelude.{◌≡◌, ◌+◌, ◌*◌, ◌%◌, ◌^◌, ◌≤◌, ◌<◌, leb, ltb, length};
 ghost use Rattle.lists.specs.Pick.{both};
@@ -16,7 +18,8 @@ ghost use Rattle.plain.specs.Plain as Plain;
 ghost use Rattle.plain.specs.Plain.{word_of, new_word_lem, words_for, value_in, plain_value, plain_unpack, word_in, plain_pack};
 ghost use Rattle.plain.specs.Singles.{single_number, answer_of, value_of, words_of};
 
-use places::{Answer, Element, order};
+pub use bitwise::Bitwise;
+use places::{Answer, order};
 
 // What stands for a count where there is none.
 pub const NO_COUNT: usize = usize::MAX;
@@ -42,12 +45,12 @@ impl<E: Copy> Single<E> {
     // The value; 0 after a refusal.
     pub fn value<const T: usize, const LANES: usize>(self) -> E
     where
-        E: Element<T, LANES>,
+        E: Bitwise<T, LANES>,
         ensures { E.number result ≡ value_of (single_number E.number self) }
     {
         match self {
             Single::Value(v, _) => v,
-            Single::Refused(_) => E::of(0),
+            Single::Refused(_) => E::none(),
         }
     }
 
@@ -63,7 +66,7 @@ impl<E: Copy> Single<E> {
 }
 
 // Packs a block of 1,024 values.
-pub fn pack<E: Element<T, LANES>, const T: usize, const LANES: usize>(
+pub fn pack<E: Bitwise<T, LANES>, const T: usize, const LANES: usize>(
     width: usize,
     values: &[E],
     packed: &mut [E],
@@ -79,7 +82,7 @@ pub fn pack<E: Element<T, LANES>, const T: usize, const LANES: usize>(
 }
 
 // Unpacks a packed block.
-pub fn unpack<E: Element<T, LANES>, const T: usize, const LANES: usize>(
+pub fn unpack<E: Bitwise<T, LANES>, const T: usize, const LANES: usize>(
     width: usize,
     packed: &[E],
     values: &mut [E],
@@ -95,7 +98,7 @@ pub fn unpack<E: Element<T, LANES>, const T: usize, const LANES: usize>(
 }
 
 // Unpacks the value at one place of a packed block, and counts the words that its bits come from.
-pub fn unpack_single<E: Element<T, LANES>, const T: usize, const LANES: usize>(
+pub fn unpack_single<E: Bitwise<T, LANES>, const T: usize, const LANES: usize>(
     width: usize,
     packed: &[E],
     index: usize,
@@ -113,7 +116,7 @@ pub fn unpack_single<E: Element<T, LANES>, const T: usize, const LANES: usize>(
 }
 
 // What pack and unpack answer.
-fn block_answer<E: Element<T, LANES>, const T: usize, const LANES: usize>(
+fn block_answer<E: Bitwise<T, LANES>, const T: usize, const LANES: usize>(
     width: usize,
     values: &[E],
     packed: &[E],
@@ -134,7 +137,7 @@ fn block_answer<E: Element<T, LANES>, const T: usize, const LANES: usize>(
 }
 
 // What single access answers.
-fn single_answer<E: Element<T, LANES>, const T: usize, const LANES: usize>(
+fn single_answer<E: Bitwise<T, LANES>, const T: usize, const LANES: usize>(
     width: usize,
     packed: &[E],
     index: usize,
@@ -154,7 +157,7 @@ fn single_answer<E: Element<T, LANES>, const T: usize, const LANES: usize>(
 }
 
 // Unpacks place by place.
-fn unpack_values<E: Element<T, LANES>, const T: usize, const LANES: usize>(
+fn unpack_values<E: Bitwise<T, LANES>, const T: usize, const LANES: usize>(
     width: usize,
     packed: &[E],
     values: &mut [E],
@@ -170,7 +173,7 @@ fn unpack_values<E: Element<T, LANES>, const T: usize, const LANES: usize>(
 }
 
 // The value at one place.
-fn value_at<E: Element<T, LANES>, const T: usize, const LANES: usize>(
+fn value_at<E: Bitwise<T, LANES>, const T: usize, const LANES: usize>(
     width: usize,
     packed: &[E],
     p: usize,
@@ -184,7 +187,7 @@ fn value_at<E: Element<T, LANES>, const T: usize, const LANES: usize>(
 }
 
 // The value of a row of a lane, bit by bit.
-fn value_in<E: Element<T, LANES>, const T: usize, const LANES: usize>(
+fn value_in<E: Bitwise<T, LANES>, const T: usize, const LANES: usize>(
     width: usize,
     packed: &[E],
     lane: usize,
@@ -195,16 +198,16 @@ fn value_in<E: Element<T, LANES>, const T: usize, const LANES: usize>(
     requires lane_bound { (lane < lanes T) × (row < T) }
     ensures { E.number result ≡ value_in T width (E.numbers packed.now) lane row }
 {
-    let mut value = E::of(0);
+    let mut value = E::none();
     for b in 0..width {
         let word = packed[LANES * word_of(T, width, row, b) + lane];
-        value = value.wrapping_add(at_bit(bit(word, bit_in_word(T, width, row, b)), b));
+        value = value.plus(at_bit(bit(word, bit_in_word(T, width, row, b)), b));
     }
     value
 }
 
 // Packs word by word.
-fn pack_words<E: Element<T, LANES>, const T: usize, const LANES: usize>(
+fn pack_words<E: Bitwise<T, LANES>, const T: usize, const LANES: usize>(
     width: usize,
     values: &[E],
     packed: &mut [E],
@@ -220,7 +223,7 @@ fn pack_words<E: Element<T, LANES>, const T: usize, const LANES: usize>(
 }
 
 // Word k of a lane, bit by bit: the sentence read the other way round.
-fn word_in<E: Element<T, LANES>, const T: usize, const LANES: usize>(
+fn word_in<E: Bitwise<T, LANES>, const T: usize, const LANES: usize>(
     width: usize,
     values: &[E],
     lane: usize,
@@ -231,29 +234,29 @@ fn word_in<E: Element<T, LANES>, const T: usize, const LANES: usize>(
     requires lane_bound { (lane < lanes T) × (k < width) }
     ensures { E.number result ≡ word_in T width (E.numbers values.now) lane k }
 {
-    let mut word = E::of(0);
+    let mut word = E::none();
     for j in 0..T {
         let at = k * T + j;
         let value = values[place(at / width, lane)];
-        word = word.wrapping_add(at_bit(bit(value, at % width), j));
+        word = word.plus(at_bit(bit(value, at % width), j));
     }
     word
 }
 
 // Bit i of a number.
-fn bit<E: Element<T, LANES>, const T: usize, const LANES: usize>(m: E, i: usize) -> E
+fn bit<E: Bitwise<T, LANES>, const T: usize, const LANES: usize>(m: E, i: usize) -> E
     requires { i < T }
     ensures { E.number result ≡ Plain.bit (E.number m) i }
 {
-    m.shr(i).low(1)
+    m.bit(i)
 }
 
 // A bit at place i of a number.
-fn at_bit<E: Element<T, LANES>, const T: usize, const LANES: usize>(x: E, i: usize) -> E
+fn at_bit<E: Bitwise<T, LANES>, const T: usize, const LANES: usize>(x: E, i: usize) -> E
     requires { (E.number x < 2) × (i < T) }
     ensures { E.number result ≡ E.number x * 2 ^ i }
 {
-    x.shl(i)
+    x.at_bit(i)
 }
 
 // The place of a row in a lane.

@@ -1,13 +1,18 @@
 -- What the row operations give of rows that are given by rules, over the element size.
 -- Assumes nothing.
-use Rattle.std.proofs.Common.{◌≡◌, ℕ, ◌*◌, ◌/◌, ◌%◌, ◌^◌, ◌<◌, ◌≤◌, List, ◌++◌, length, get_or, take, drop, get_or-take, length-take, zero-add, sym, ap, ◌∙◌, ap₂, mod-eq_of_lt, arith, le-leb}
+use Rattle.std.proofs.Common.{◌≡◌, ℕ, ◌*◌, ◌/◌, ◌%◌, ◌^◌, ◌<◌, ◌≤◌, List, ◌++◌, length, get_or, take, drop, get_or-take, length-take, zero-add, sym, ap, ◌∙◌, ap₂, mod-eq_of_lt, one-mul, arith, le-leb}
 use lib.Bits.{bit_or}
+use lib.Pow.{pow-lt}
 use borrow.Author.Tests.{lt-leb}
 use Rattle.lists.specs.Tab.{tab, over}
 use Rattle.lists.specs.Numbers.{plus, minus}
 use Rattle.lists.proofs.Tabs.{tab_ext, tab_get_d, get_d_tab}
 use Rattle.places.specs.Sizes.{lanes}
 use Rattle.rows.specs.Rows.{splat_of, load_of, store_of, shr_of, or_shl_of, mask_of, add_of, sub_of}
+
+-- one, shifted up by less than t, is the power itself
+pub one_shifted : (t w : ℕ) → w < t → 1 * 2 ^ w % 2 ^ t ≡ 2 ^ w
+one_shifted t w h = ap (λ k. k % 2 ^ t) (one-mul (2 ^ w)) ∙ mod-eq_of_lt (pow-lt h)
 
 -- a load and a store by the test of their room
 

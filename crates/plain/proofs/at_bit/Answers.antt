@@ -10,4 +10,4 @@ returns g c =
     let x = g.E.Element.number c.args.x in
     let most : x * 2 ^ c.args.i ≤ 1 * 2 ^ c.args.i = mul-le-mul_right (2 ^ c.args.i) (omega (arith, c.requires.0)) in
     let small : x * 2 ^ c.args.i < 2 ^ g.row.T = omega (arith, most, one-mul (2 ^ c.args.i), pow-lt c.requires.1) in
-    c.shl.ensures ∙ ap (λ k. x * 2 ^ k % 2 ^ g.row.T) (mod-eq_of_lt c.requires.1) ∙ mod-eq_of_lt small
+    c.at_bit.ensures ∙ ap (λ k. x * 2 ^ k % 2 ^ g.row.T) (mod-eq_of_lt c.requires.1) ∙ mod-eq_of_lt small

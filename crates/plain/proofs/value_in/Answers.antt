@@ -1,7 +1,7 @@
 -- `plain::value_in` meets its contract. The loop's invariant: the value is made of the first b bits.
 -- Assumes nothing.
 use Rattle.std.proofs.Common.{◌≡◌, ◌+◌, ◌*◌, ◌<◌, length, get_or, sym, ap, ap₂, ◌∙◌, subst, arith}
-use Rattle.lists.specs.Numbers.{number}
+use Rattle.lists.specs.Numbers.{number, plus}
 use Rattle.places.proofs.Elements.{numbers-at}
 use Rattle.places.proofs.Places.{size_some}
 use Rattle.plain.specs.Plain.{bit, bit_at, value_in}
@@ -11,7 +11,7 @@ use Rattle.plain.proofs.value_in.Goals.{After-bit, After-word_of}
 
 pub loop-b-init : goal.loop-b-init
 unfolding number
-loop-b-init g c = c.of-value.ensures
+loop-b-init g c = c.none-value.ensures
 
 -- the bit that a turn moves is one of the lane's, so its word is one of the packed words
 within : (g : _) (c : After-word_of g) → g.row.LANES * c.word_of.result + c.args.lane < length c.args.packed.now
@@ -42,9 +42,10 @@ next g c within =
     c.bit_in_word.ensures
 
 pub loop-b-preserved : goal.loop-b-preserved
+unfolding plus
 loop-b-preserved g c =
     let at = goal.at.loop-b-preserved g c in
-    c.wrapping_add-value.ensures
+    c.plus-value.ensures
     ∙ bit-added (bit_at_small g.row.T _ _ _ _) c.loop-b.invariant (next g at.After-bit (within g at.After-word_of)) c.at_bit.ensures g.row.T (omega arith)
 
 pub returns : goal.returns

@@ -1,7 +1,7 @@
 -- `plain::word_in` meets its contract. The loop's invariant: the word is made of the first j bits.
 -- Assumes nothing.
 use Rattle.std.proofs.Common.{◌≡◌, ◌+◌, ◌*◌, ◌%◌, ◌<◌, length, get_or, sym, ap, ◌∙◌, subst, arith}
-use Rattle.lists.specs.Numbers.{number}
+use Rattle.lists.specs.Numbers.{number, plus}
 use Rattle.places.proofs.Elements.{numbers-at}
 use Rattle.places.proofs.Places.{place-lt}
 use Rattle.plain.specs.Plain.{bit, bit_of, word_in}
@@ -11,7 +11,7 @@ use Rattle.plain.proofs.word_in.Goals.{After-bit, After-place}
 
 pub loop-j-init : goal.loop-j-init
 unfolding number
-loop-j-init g c = c.of-word.ensures
+loop-j-init g c = c.none-word.ensures
 
 -- the bit that a turn moves stands in one of the lane's rows, so it is of one of the block's values
 within : (g : _) (c : After-place g) → c.place.result < length c.args.values.now
@@ -40,9 +40,10 @@ next g c within =
     ∙ ap (λ p. get_or (g.E.Element.numbers c.args.values.now) p 0) c.place.ensures)
 
 pub loop-j-preserved : goal.loop-j-preserved
+unfolding plus
 loop-j-preserved g c =
     let at = goal.at.loop-j-preserved g c in
-    c.wrapping_add-word.ensures
+    c.plus-word.ensures
     ∙ bit-added (bit_of_small g.row.T _ _ _ _) c.loop-j.invariant (next g at.After-bit (within g at.After-place)) c.at_bit.ensures g.row.T (omega arith)
 
 pub returns : goal.returns
