@@ -1,6 +1,6 @@
 -- `plain::bit` meets its contract: the place of a bit is below T, and so it is taken as it is.
 -- Assumes nothing.
-use Rattle.std.proofs.Common.{◌/◌, ◌%◌, ◌^◌, ◌<◌, ap, ◌∙◌, mod-eq_of_lt}
+use Rattle.std.proofs.Common.{◌/◌, ◌%◌, ◌^◌, ap, ◌∙◌, mod-eq_of_lt}
 use Rattle.plain.proofs.Bits.{bit_shift}
 use Rattle.plain.proofs.bit.Goals as goal
 
