@@ -2,10 +2,13 @@
 //
 //     bit b of row r of lane l is bit (r · W + b) mod T of word (r · W + b) / T of that lane.
 //
-// It is slow, and it is there to be believed: it depends on no code of packing or access, works on bits by operations of
-// its own, and has no rule of its own for any width.
+// It is slow, and it is there to be believed: it depends on no code of packing or access, and has no rule of its own for
+// any width. The engine is one text over an arithmetic of bits. By `ByBitwise`, which has operations of this crate's own,
+// it is the second engine of R76: the calls whose names end in `bitwise`. By `ByElement` it takes any type of element,
+// and asks the operations that the type has.
 #![tactic(auto)]
 
+mod arithmetic;
 mod bitwise;
 
 ghost use Rattle.std.specs.Prelude.{◌≡◌, ◌+◌, ◌*◌, ◌%◌, ◌^◌, ◌≤◌, ◌<◌, leb, ltb, length};
@@ -18,8 +21,12 @@ ghost use Rattle.plain.specs.Plain as Plain;
 ghost use Rattle.plain.specs.Plain.{word_of, new_word_lem, words_for, value_in, plain_value, plain_unpack, word_in, plain_pack};
 ghost use Rattle.plain.specs.Singles.{single_number, answer_of, value_of, words_of};
 
+use arithmetic::{Arithmetic, ByBitwise, ByElement};
 pub use bitwise::Bitwise;
-use places::{Answer, order};
+use places::{Answer, Element, order};
+
+#[cfg(test)]
+mod tests;
 
 // What stands for a count where there is none.
 pub const NO_COUNT: usize = usize::MAX;
@@ -45,12 +52,31 @@ impl<E: Copy> Single<E> {
     // The value; 0 after a refusal.
     pub fn value<const T: usize, const LANES: usize>(self) -> E
     where
+        E: Element<T, LANES>,
+        ensures { E.number result ≡ value_of (single_number E.number self) }
+    {
+        self.value_by(ByElement)
+    }
+
+    // `value` by an operation of this crate's own.
+    pub fn value_bitwise<const T: usize, const LANES: usize>(self) -> E
+    where
         E: Bitwise<T, LANES>,
+        ensures { E.number result ≡ value_of (single_number E.number self) }
+    {
+        self.value_by(ByBitwise)
+    }
+
+    // The value; after a refusal the number that has no bit.
+    fn value_by<A, const T: usize, const LANES: usize>(self, by: A) -> E
+    where
+        E: Element<T, LANES>,
+        A: Arithmetic<E, T, LANES>,
         ensures { E.number result ≡ value_of (single_number E.number self) }
     {
         match self {
             Single::Value(v, _) => v,
-            Single::Refused(_) => E::none(),
+            Single::Refused(_) => by.none(),
         }
     }
 
@@ -66,7 +92,80 @@ impl<E: Copy> Single<E> {
 }
 
 // Packs a block of 1,024 values.
-pub fn pack<E: Bitwise<T, LANES>, const T: usize, const LANES: usize>(
+pub fn pack<E: Element<T, LANES>, const T: usize, const LANES: usize>(
+    width: usize,
+    values: &[E],
+    packed: &mut [E],
+) -> Answer
+    ensures value { result ≡ answer_for (plain_takes T width (E.numbers values.now) (E.numbers packed.old)) }
+    ensures packed_after { E.numbers packed.new ≡ plain_pack_leaves T width (E.numbers values.now) (E.numbers packed.old) }
+{
+    pack_by(ByElement, width, values, packed)
+}
+
+// Unpacks a packed block.
+pub fn unpack<E: Element<T, LANES>, const T: usize, const LANES: usize>(
+    width: usize,
+    packed: &[E],
+    values: &mut [E],
+) -> Answer
+    ensures value { result ≡ answer_for (plain_takes T width (E.numbers values.old) (E.numbers packed.now)) }
+    ensures values_after { E.numbers values.new ≡ plain_unpack_leaves T width (E.numbers values.old) (E.numbers packed.now) }
+{
+    unpack_by(ByElement, width, packed, values)
+}
+
+// Unpacks the value at one place of a packed block, and counts the words that its bits come from.
+pub fn unpack_single<E: Element<T, LANES>, const T: usize, const LANES: usize>(
+    width: usize,
+    packed: &[E],
+    index: usize,
+) -> Single<E>
+    ensures { single_number E.number result
+        ≡ plain_single Single.Value Single.Refused T width (E.numbers packed.now) index }
+{
+    unpack_single_by(ByElement, width, packed, index)
+}
+
+// `pack` by operations of this crate's own (R76).
+pub fn pack_bitwise<E: Bitwise<T, LANES>, const T: usize, const LANES: usize>(
+    width: usize,
+    values: &[E],
+    packed: &mut [E],
+) -> Answer
+    ensures value { result ≡ answer_for (plain_takes T width (E.numbers values.now) (E.numbers packed.old)) }
+    ensures packed_after { E.numbers packed.new ≡ plain_pack_leaves T width (E.numbers values.now) (E.numbers packed.old) }
+{
+    pack_by(ByBitwise, width, values, packed)
+}
+
+// `unpack` by operations of this crate's own (R76).
+pub fn unpack_bitwise<E: Bitwise<T, LANES>, const T: usize, const LANES: usize>(
+    width: usize,
+    packed: &[E],
+    values: &mut [E],
+) -> Answer
+    ensures value { result ≡ answer_for (plain_takes T width (E.numbers values.old) (E.numbers packed.now)) }
+    ensures values_after { E.numbers values.new ≡ plain_unpack_leaves T width (E.numbers values.old) (E.numbers packed.now) }
+{
+    unpack_by(ByBitwise, width, packed, values)
+}
+
+// `unpack_single` by operations of this crate's own (R76).
+pub fn unpack_single_bitwise<E: Bitwise<T, LANES>, const T: usize, const LANES: usize>(
+    width: usize,
+    packed: &[E],
+    index: usize,
+) -> Single<E>
+    ensures { single_number E.number result
+        ≡ plain_single Single.Value Single.Refused T width (E.numbers packed.now) index }
+{
+    unpack_single_by(ByBitwise, width, packed, index)
+}
+
+// Packs, by an arithmetic of bits.
+fn pack_by<A: Arithmetic<E, T, LANES>, E: Element<T, LANES>, const T: usize, const LANES: usize>(
+    by: A,
     width: usize,
     values: &[E],
     packed: &mut [E],
@@ -76,13 +175,14 @@ pub fn pack<E: Bitwise<T, LANES>, const T: usize, const LANES: usize>(
 {
     let answer = block_answer(width, values, packed);
     if answer.number() == 0 {
-        pack_words(width, values, packed);
+        pack_words(by, width, values, packed);
     }
     answer
 }
 
-// Unpacks a packed block.
-pub fn unpack<E: Bitwise<T, LANES>, const T: usize, const LANES: usize>(
+// Unpacks, by an arithmetic of bits.
+fn unpack_by<A: Arithmetic<E, T, LANES>, E: Element<T, LANES>, const T: usize, const LANES: usize>(
+    by: A,
     width: usize,
     packed: &[E],
     values: &mut [E],
@@ -92,17 +192,18 @@ pub fn unpack<E: Bitwise<T, LANES>, const T: usize, const LANES: usize>(
 {
     let answer = block_answer(width, values, packed);
     if answer.number() == 0 {
-        unpack_values(width, packed, values);
+        unpack_values(by, width, packed, values);
     }
     answer
 }
 
-// Unpacks the value at one place of a packed block, and counts the words that its bits come from.
-pub fn unpack_single<E: Bitwise<T, LANES>, const T: usize, const LANES: usize>(
-    width: usize,
-    packed: &[E],
-    index: usize,
-) -> Single<E>
+// Unpacks the value at one place, by an arithmetic of bits.
+fn unpack_single_by<
+    A: Arithmetic<E, T, LANES>,
+    E: Element<T, LANES>,
+    const T: usize,
+    const LANES: usize,
+>(by: A, width: usize, packed: &[E], index: usize) -> Single<E>
     ensures { single_number E.number result
         ≡ plain_single Single.Value Single.Refused T width (E.numbers packed.now) index }
 {
@@ -110,13 +211,13 @@ pub fn unpack_single<E: Bitwise<T, LANES>, const T: usize, const LANES: usize>(
     if answer.number() != 0 {
         return Single::Refused(answer);
     }
-    let value = value_at(width, packed, index);
+    let value = value_at(by, width, packed, index);
     let words = words_for(T, width, row_of(T, index));
     Single::Value(value, words)
 }
 
 // What pack and unpack answer.
-fn block_answer<E: Bitwise<T, LANES>, const T: usize, const LANES: usize>(
+fn block_answer<E: Element<T, LANES>, const T: usize, const LANES: usize>(
     width: usize,
     values: &[E],
     packed: &[E],
@@ -137,7 +238,7 @@ fn block_answer<E: Bitwise<T, LANES>, const T: usize, const LANES: usize>(
 }
 
 // What single access answers.
-fn single_answer<E: Bitwise<T, LANES>, const T: usize, const LANES: usize>(
+fn single_answer<E: Element<T, LANES>, const T: usize, const LANES: usize>(
     width: usize,
     packed: &[E],
     index: usize,
@@ -157,23 +258,25 @@ fn single_answer<E: Bitwise<T, LANES>, const T: usize, const LANES: usize>(
 }
 
 // Unpacks place by place.
-fn unpack_values<E: Bitwise<T, LANES>, const T: usize, const LANES: usize>(
-    width: usize,
-    packed: &[E],
-    values: &mut [E],
-)
+fn unpack_values<
+    A: Arithmetic<E, T, LANES>,
+    E: Element<T, LANES>,
+    const T: usize,
+    const LANES: usize,
+>(by: A, width: usize, packed: &[E], values: &mut [E])
     requires width_le_t { width ≤ T }
     requires packed_len { length packed.now ≡ lanes T * width }
     requires values_len { length values.old ≡ 1024 }
     ensures { E.numbers values.new ≡ plain_unpack T width (E.numbers packed.now) }
 {
     for (p, value) in values.iter_mut().enumerate() {
-        *value = value_at(width, packed, p);
+        *value = value_at(by, width, packed, p);
     }
 }
 
 // The value at one place.
-fn value_at<E: Bitwise<T, LANES>, const T: usize, const LANES: usize>(
+fn value_at<A: Arithmetic<E, T, LANES>, E: Element<T, LANES>, const T: usize, const LANES: usize>(
+    by: A,
     width: usize,
     packed: &[E],
     p: usize,
@@ -183,11 +286,12 @@ fn value_at<E: Bitwise<T, LANES>, const T: usize, const LANES: usize>(
     requires p_bound { p < 1024 }
     ensures { E.number result ≡ plain_value T width (E.numbers packed.now) p }
 {
-    value_in(width, packed, lane_of(T, p), row_of(T, p))
+    value_in(by, width, packed, lane_of(T, p), row_of(T, p))
 }
 
 // The value of a row of a lane, bit by bit.
-fn value_in<E: Bitwise<T, LANES>, const T: usize, const LANES: usize>(
+fn value_in<A: Arithmetic<E, T, LANES>, E: Element<T, LANES>, const T: usize, const LANES: usize>(
+    by: A,
     width: usize,
     packed: &[E],
     lane: usize,
@@ -198,16 +302,20 @@ fn value_in<E: Bitwise<T, LANES>, const T: usize, const LANES: usize>(
     requires lane_bound { (lane < lanes T) × (row < T) }
     ensures { E.number result ≡ value_in T width (E.numbers packed.now) lane row }
 {
-    let mut value = E::none();
+    let mut value = by.none();
     for b in 0..width {
         let word = packed[LANES * word_of(T, width, row, b) + lane];
-        value = value.plus(at_bit(bit(word, bit_in_word(T, width, row, b)), b));
+        value = by.plus(
+            value,
+            at_bit(by, bit(by, word, bit_in_word(T, width, row, b)), b),
+        );
     }
     value
 }
 
 // Packs word by word.
-fn pack_words<E: Bitwise<T, LANES>, const T: usize, const LANES: usize>(
+fn pack_words<A: Arithmetic<E, T, LANES>, E: Element<T, LANES>, const T: usize, const LANES: usize>(
+    by: A,
     width: usize,
     values: &[E],
     packed: &mut [E],
@@ -218,12 +326,13 @@ fn pack_words<E: Bitwise<T, LANES>, const T: usize, const LANES: usize>(
     ensures { E.numbers packed.new ≡ plain_pack T width (E.numbers values.now) }
 {
     for (i, word) in packed.iter_mut().enumerate() {
-        *word = word_in(width, values, i % LANES, i / LANES);
+        *word = word_in(by, width, values, i % LANES, i / LANES);
     }
 }
 
 // Word k of a lane, bit by bit: the sentence read the other way round.
-fn word_in<E: Bitwise<T, LANES>, const T: usize, const LANES: usize>(
+fn word_in<A: Arithmetic<E, T, LANES>, E: Element<T, LANES>, const T: usize, const LANES: usize>(
+    by: A,
     width: usize,
     values: &[E],
     lane: usize,
@@ -234,29 +343,37 @@ fn word_in<E: Bitwise<T, LANES>, const T: usize, const LANES: usize>(
     requires lane_bound { (lane < lanes T) × (k < width) }
     ensures { E.number result ≡ word_in T width (E.numbers values.now) lane k }
 {
-    let mut word = E::none();
+    let mut word = by.none();
     for j in 0..T {
         let at = k * T + j;
         let value = values[place(at / width, lane)];
-        word = word.plus(at_bit(bit(value, at % width), j));
+        word = by.plus(word, at_bit(by, bit(by, value, at % width), j));
     }
     word
 }
 
 // Bit i of a number.
-fn bit<E: Bitwise<T, LANES>, const T: usize, const LANES: usize>(m: E, i: usize) -> E
+fn bit<A: Arithmetic<E, T, LANES>, E: Element<T, LANES>, const T: usize, const LANES: usize>(
+    by: A,
+    m: E,
+    i: usize,
+) -> E
     requires { i < T }
     ensures { E.number result ≡ Plain.bit (E.number m) i }
 {
-    m.bit(i)
+    by.bit(m, i)
 }
 
 // A bit at place i of a number.
-fn at_bit<E: Bitwise<T, LANES>, const T: usize, const LANES: usize>(x: E, i: usize) -> E
+fn at_bit<A: Arithmetic<E, T, LANES>, E: Element<T, LANES>, const T: usize, const LANES: usize>(
+    by: A,
+    x: E,
+    i: usize,
+) -> E
     requires { (E.number x < 2) × (i < T) }
     ensures { E.number result ≡ E.number x * 2 ^ i }
 {
-    x.at_bit(i)
+    by.at_bit(x, i)
 }
 
 // The place of a row in a lane.

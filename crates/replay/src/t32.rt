@@ -68,9 +68,9 @@ fn reply(
         11 => Reply::of(places::transpose(input, out)),
         12 => Reply::of(places::untranspose(input, out)),
         23 => of_front(access::unpack_within(width, input, indices, head.reference, out)),
-        27 => Reply::of(plain::pack(width, input, out)),
-        28 => Reply::of(plain::unpack(width, input, out)),
-        29 => plain_single(plain::unpack_single(width, input, head.index as usize)),
+        27 => Reply::of(plain::pack_bitwise(width, input, out)),
+        28 => Reply::of(plain::unpack_bitwise(width, input, out)),
+        29 => plain_single(plain::unpack_single_bitwise(width, input, head.index as usize)),
         _ => Reply::Unknown,
     }
 }
@@ -82,7 +82,11 @@ fn single(single: Single<u32>) -> Reply {
 
 // The same of the plain engine's.
 fn plain_single(single: plain::Single<u32>) -> Reply {
-    of_plain(single.answer(), single.value().widen(), single.words())
+    of_plain(
+        single.answer(),
+        single.value_bitwise().widen(),
+        single.words(),
+    )
 }
 
 // A count of the head, as a count of x's elements. The head's counts are within every buffer. The contract says so of

@@ -1,4 +1,4 @@
--- `plain::unpack` meets its contract: where the blocks are taken, all of `values` is written.
+-- `plain::unpack_by` meets its contract: where the blocks are taken, all of `values` is written.
 -- Assumes nothing.
 use mathlib.Core.Path.{◌≡◌, sym, ◌∙◌}
 use Rattle.places.specs.Answers.{number_of}
@@ -6,7 +6,7 @@ use Rattle.places.proofs.Answers.{by_refusal, by_done, number-done}
 use Rattle.places.proofs.Elements.{numbers-length}
 use Rattle.plain.specs.Calls.{plain_unpack_leaves}
 use Rattle.plain.proofs.Answers.{taken}
-use Rattle.plain.proofs.unpack.Goals as goal
+use Rattle.plain.proofs.unpack_by.Goals as goal
 
 pub unpack_values-requires : goal.unpack_values-requires
 unpack_values-requires g c =

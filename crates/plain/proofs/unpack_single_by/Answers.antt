@@ -1,4 +1,4 @@
--- `plain::unpack_single` meets its contract: where the place is taken, its value and its count are those of its
+-- `plain::unpack_single_by` meets its contract: where the place is taken, its value and its count are those of its
 -- row and its lane.
 -- Assumes nothing.
 use Rattle.std.proofs.Common.{◌<◌, sym, ap, ap₂, ◌∙◌, subst}
@@ -9,8 +9,8 @@ use Rattle.plain.specs.declared.Single.TheVariants.{Value, Refused}
 use Rattle.plain.specs.Calls.{plain_single}
 use Rattle.plain.specs.Plain.{words_for, plain_count}
 use Rattle.plain.proofs.Answers.{Place, single-taken}
-use Rattle.plain.proofs.unpack_single.Goals as goal
-use Rattle.plain.proofs.unpack_single.Goals.{Else-number-ne0}
+use Rattle.plain.proofs.unpack_single_by.Goals as goal
+use Rattle.plain.proofs.unpack_single_by.Goals.{Else-number-ne0}
 
 pub returns-then-number-ne0 : goal.returns-then-number-ne0
 unfolding plain_single

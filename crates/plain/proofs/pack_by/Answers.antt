@@ -1,4 +1,4 @@
--- `plain::pack` meets its contract: where the blocks are taken, all of `packed` is written.
+-- `plain::pack_by` meets its contract: where the blocks are taken, all of `packed` is written.
 -- Assumes nothing.
 use mathlib.Core.Path.{◌≡◌, sym, ◌∙◌}
 use Rattle.places.specs.Answers.{number_of}
@@ -6,7 +6,7 @@ use Rattle.places.proofs.Answers.{by_refusal, by_done, number-done}
 use Rattle.places.proofs.Elements.{numbers-length}
 use Rattle.plain.specs.Calls.{plain_pack_leaves}
 use Rattle.plain.proofs.Answers.{taken}
-use Rattle.plain.proofs.pack.Goals as goal
+use Rattle.plain.proofs.pack_by.Goals as goal
 
 pub pack_words-requires : goal.pack_words-requires
 pack_words-requires g c =
