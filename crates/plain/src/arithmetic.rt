@@ -15,7 +15,7 @@ pub trait Arithmetic<E: Element<T, LANES>, const T: usize, const LANES: usize>: 
     fn bit(self, m: E, i: usize) -> E
         ensures { E.number result ≡ E.number m / 2 ^ (i % T) % 2 };
 
-    // A number moved up by i places; what stands at 2^T and above is lost.
+    // A number moved up by i places; what is at 2^T and above is lost.
     fn at_bit(self, m: E, i: usize) -> E
         ensures { E.number result ≡ E.number m * 2 ^ (i % T) % 2 ^ T };
 

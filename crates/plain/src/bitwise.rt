@@ -15,7 +15,7 @@ pub trait Bitwise<const T: usize, const LANES: usize>: Element<T, LANES> {
     fn bit(self, i: usize) -> Self
         ensures { Self.number result ≡ Self.number self / 2 ^ (i % T) % 2 };
 
-    // A number moved up by i places; what stands at 2^T and above is lost.
+    // A number moved up by i places; what is at 2^T and above is lost.
     fn at_bit(self, i: usize) -> Self
         ensures { Self.number result ≡ Self.number self * 2 ^ (i % T) % 2 ^ T };
 

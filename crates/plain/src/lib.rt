@@ -3,9 +3,9 @@
 //     bit b of row r of lane l is bit (r · W + b) mod T of word (r · W + b) / T of that lane.
 //
 // It is slow, and it is there to be believed: it depends on no code of packing or access, and has no rule of its own for
-// any width. The engine is one text over an arithmetic of bits. By `ByBitwise`, which has operations of this crate's own,
-// it is the second engine of R76: the calls whose names end in `bitwise`. By `ByElement` it takes any type of element,
-// and asks the operations that the type has.
+// any width. The engine is one text, which takes an arithmetic of bits. With `ByBitwise`, whose operations are this
+// crate's own, it is the second engine of R76: the calls whose names end in `bitwise`. With `ByElement` it takes any type
+// of element, and works by the operations of that type.
 #![tactic(auto)]
 
 mod arithmetic;

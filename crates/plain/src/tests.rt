@@ -77,7 +77,7 @@ fn u8_of_five_bits(rt: HostRuntime) {
     assert_eq!(rt; looked_up(5, &packed, 130), (21, 2));
 }
 
-// A refused call has its number and leaves what it was lent, and a refused lookup has the value 0.
+// A refused call answers its number and changes nothing, and a refused lookup has the value 0.
 #[test]
 fn refusals(rt: HostRuntime) {
     let mut packed = [7u16; 64];
